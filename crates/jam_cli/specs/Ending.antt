@@ -1,0 +1,92 @@
+-- How a call may end, and why. Each cause is stated over the files that a command reads, in the order of their words.
+use Rattle.std.specs.Prelude.{◌≡◌, ◌≢◌, ◌⊎◌, ℕ, ◌<◌, ◌≤◌, List, [], ◌∷◌, length, Option, Some, None, IfSome}
+use Rattle.std.specs.FinMap as fin
+use Rattle.jam_outside.specs.Files.{Files, content}
+use Rattle.jam_outside.specs.Causes.{VaultState, SinkState, Rose, Appends, AppendsPrefix}
+use Rattle.jam_cli.specs.declared.status.Status.{Status}
+use Rattle.jam_cli.specs.declared.status.Status.TheVariants.{Done, NoMemory, BadWords, ReadFault, TooLong, Refused, SinkFault}
+use Rattle.jam_cli.specs.Command.{Command, Input, inputs, Values, ValueOf, SpellsValue, printed, stored}
+
+-- what is known of the outside at a call's begin and at its end
+pub record Call : Type 0 where
+  pub vault : VaultState
+  pub vault_after : VaultState
+  pub sink : SinkState
+  pub sink_after : SinkState
+
+-- how many bytes of a file are read at the most
+abbrev pub limit : ℕ
+limit = 67108864
+
+-- the file was read: it holds no more than is read
+abbrev pub WasRead : Files → Input → Type 0
+WasRead files i = length (content files i.name) ≤ limit
+
+abbrev pub AllRead : Files → List Input → Type 0
+AllRead files [] = Unit {0}
+AllRead files (i ∷ is) = WasRead files i × AllRead files is
+
+-- the files spell these values
+abbrev pub SpellAll : Files → (is : List Input) → Values is → Type 0
+SpellAll files [] values = Unit {0}
+SpellAll files (i ∷ is) values = SpellsValue i.kind values.0 (content files i.name) × SpellAll files is values.1
+
+-- the word of the first file that holds too much
+abbrev pub FirstTooLong : Files → List Input → ℕ → Type 0
+FirstTooLong files [] word = ⊥
+FirstTooLong files (i ∷ is) word = ((i.word ≡ word) × (limit < length (content files i.name))) ⊎ (WasRead files i × FirstTooLong files is word)
+
+abbrev pub SpellsNone : Files → Input → Type 0
+SpellsNone files i = (value : ValueOf i.kind) → SpellsValue i.kind value (content files i.name) → ⊥
+
+abbrev pub SpellsSome : Files → Input → Type 0
+SpellsSome files i = (value : ValueOf i.kind) × SpellsValue i.kind value (content files i.name)
+
+-- the word of the first file that spells no value of its kind
+abbrev pub FirstRefused : Files → List Input → ℕ → Type 0
+FirstRefused files [] word = ⊥
+FirstRefused files (i ∷ is) word = ((i.word ≡ word) × SpellsNone files i) ⊎ (SpellsSome files i × FirstRefused files is word)
+
+-- the word of the first file with this name
+abbrev pub FirstNamed : List ℕ → List Input → ℕ → Type 0
+FirstNamed name [] word = ⊥
+FirstNamed name (i ∷ is) word = ((i.name ≡ name) × (i.word ≡ word)) ⊎ ((i.name ≢ name) × FirstNamed name is word)
+
+-- the files of a command were read, and spell these values
+abbrev pub Gives : Files → (c : Command) → Values (inputs c) → Type 0
+Gives files c values = AllRead files (inputs c) × SpellAll files (inputs c) values
+
+-- the files after a store, if there is one
+abbrev pub with_stored : Option (List ℕ × List ℕ) → Files → Files
+with_stored None files = files
+with_stored (Some entry) files = fin.insert files entry.0 entry.1
+
+-- nothing was printed
+abbrev pub PrintedNothing : Call → Type 0
+PrintedNothing k = k.sink_after.taken ≡ k.sink.taken
+
+-- all that the command gives of its files was printed
+abbrev pub PrintedAll : Call → Files → Command → Type 0
+PrintedAll k files c = (values : Values (inputs c)) × Gives files c values × Appends k.sink.taken k.sink_after.taken (printed c values)
+
+-- a prefix of it was
+abbrev pub PrintedPrefix : Call → Files → Command → Type 0
+PrintedPrefix k files c = (values : Values (inputs c)) × Gives files c values × AppendsPrefix k.sink.taken k.sink_after.taken (printed c values)
+
+-- the files hold what they did
+abbrev pub KeepsFiles : Call → Type 0
+KeepsFiles k = k.vault_after.files ≡ k.vault.files
+
+-- the files hold what they did, but for what the command stores
+abbrev pub StoredAll : Call → Files → Command → Type 0
+StoredAll k files c = (values : Values (inputs c)) × Gives files c values × (k.vault_after.files ≡ Some (with_stored (stored c values) files))
+
+-- how a call of a command ends: what each status says
+abbrev pub Ends : Status → Command → Call → Type 0
+Ends Done c k = IfSome k.vault.files (λ files. PrintedAll k files c × StoredAll k files c)
+Ends NoMemory c k = (PrintedNothing k ⊎ IfSome k.vault.files (λ files. PrintedPrefix k files c)) × KeepsFiles k
+Ends BadWords c k = ⊥
+Ends (ReadFault word) c k = Rose k.vault.read_faults k.vault_after.read_faults × FirstNamed k.vault_after.failed (inputs c) word × PrintedNothing k × KeepsFiles k
+Ends (TooLong word) c k = IfSome k.vault.files (λ files. FirstTooLong files (inputs c) word) × PrintedNothing k × KeepsFiles k
+Ends (Refused word place) c k = (place ≡ 0) × IfSome k.vault.files (λ files. AllRead files (inputs c) × FirstRefused files (inputs c) word) × PrintedNothing k × KeepsFiles k
+Ends SinkFault c k = Rose k.sink.faults k.sink_after.faults × IfSome k.vault.files (λ files. PrintedPrefix k files c) × KeepsFiles k

@@ -1,0 +1,6 @@
+pub mod Memory
+pub mod Effect
+pub mod History
+pub mod Transcript
+pub mod Command
+pub mod Ending

@@ -1,0 +1,20 @@
+// How a call ends.
+
+/// The end of a call, by its cause.
+#[derive(Clone, Copy, Debug, PartialEq, Eq)]
+pub enum Status {
+    /// All was printed.
+    Done,
+    /// Memory ran out.
+    NoMemory,
+    /// No command has these words.
+    BadWords,
+    /// A read of the file of this word failed.
+    ReadFault(u8),
+    /// The file of this word holds more than 67,108,864 bytes.
+    TooLong(u8),
+    /// The bytes of this word's file spell no value of its kind. The place is 0 for now.
+    Refused { word: u8, place: u64 },
+    /// The sink failed; a prefix was printed.
+    SinkFault,
+}
