@@ -1,10 +1,21 @@
 //! The outside as traits: a vault of named files, and a sink for what is printed.
 #![tactic(auto)]
 
+mod held;
+mod mem_sink;
+mod mem_vault;
 mod sink;
+mod sure_sink;
+mod sure_vault;
+#[cfg(test)]
+mod tests;
 mod vault;
 mod whole;
 
+pub use mem_sink::MemSink;
+pub use mem_vault::MemVault;
 pub use sink::Sink;
+pub use sure_sink::SureSink;
+pub use sure_vault::SureVault;
 pub use vault::{OutsideError, Vault};
-pub use whole::ReadRefusal;
+pub use whole::{ReadRefusal, read_whole};

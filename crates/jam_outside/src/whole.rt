@@ -1,10 +1,12 @@
 // A whole file, by reads of a piece each.
-ghost use Rattle.std.specs.Prelude.{◌≡◌};
+ghost use Rattle.std.specs.Prelude.{◌≡◌, ◌+◌, ◌<◌, ◌≤◌, ◌^◌, length, IfOk, OnOk, IfSome, IsErrOf};
 ghost use Rattle.jam_outside.specs.declared.whole.ReadRefusal.TheVariants.{NoMemory};
-ghost use Rattle.jam_outside.specs.Causes.{refusal_of};
+ghost use Rattle.jam_outside.specs.Files.{content};
+ghost use Rattle.jam_outside.specs.Progress.{IsFront, HasNoMore};
+ghost use Rattle.jam_outside.specs.Causes.{AfterReads, is_read_fault, refusal_of};
 
-use crate::OutsideError;
-use std::alloc::AllocError;
+use crate::{OutsideError, Vault};
+use std::alloc::{AllocError, Global};
 use thiserror::Error;
 
 /// Why a whole file was not read.
@@ -37,4 +39,71 @@ impl From<OutsideError> for ReadRefusal {
             OutsideError::NoMemory => ReadRefusal::NoMemory,
         }
     }
+}
+
+/// The most bytes that one read asks for.
+const PIECE: usize = 65_536;
+
+/// Reads all the bytes of a file, which may be no more than the limit. A name that is not there
+/// stands for no bytes, unless the vault refuses it.
+///
+/// # Errors
+///
+/// `ReadFault` where a read failed: the vault's count rose, and its failed name is this one.
+/// `TooLong` where the file holds more bytes than the limit, and `NoMemory` for want of memory.
+/// The files stay in each case.
+#[tactic(auto, using(std::proofs::lemmas::Result::err_from_is_err_and))]
+pub fn read_whole<V: Vault>(
+    alloc: Global,
+    vault: &mut V,
+    name: &str,
+    limit: u64,
+) -> Result<Vec<u8>, ReadRefusal>
+    requires { limit < 2 ^ 63 }
+    ensures fits { IfOk result (λ v. length v.items ≤ limit) }
+    ensures bytes { IfOk result (λ v. IfSome (V.state vault.old).files (λ held. v.items ≡ content held name.now)) }
+    ensures too_long { IsErrOf result ReadRefusal.TooLong → IfSome (V.state vault.old).files (λ held. limit < length (content held name.now)) }
+    ensures state { AfterReads (is_read_fault result) (V.state vault.old) (V.state vault.new) name.now }
+{
+    let mut bytes = Vec::new(alloc);
+    let mut room = make_room(alloc, PIECE)?;
+    let room: &mut [u8] = &mut room;
+    // One byte past the limit shows that the file is too long.
+    'reads: while (bytes.len() as u64) <= limit {
+        let missing = limit + 1 - bytes.len() as u64;
+        let asked = missing.min(PIECE as u64) as usize;
+        let given = read_piece(vault, name, &mut room[..asked], &mut bytes)?;
+        if given == 0 {
+            return Ok(bytes);
+        }
+    }
+    Err(ReadRefusal::TooLong)
+}
+
+// Reads once from the place reached, adds what was given, and answers how many bytes that is.
+#[tactic(auto, using(std::proofs::lemmas::Result::err_from_is_err_and, crate::proofs::Fronts::front_grows))]
+fn read_piece<V: Vault>(
+    vault: &mut V,
+    name: &str,
+    room: &mut [u8],
+    bytes: &mut Vec<u8>,
+) -> Result<usize, ReadRefusal>
+    requires { length bytes.old.items < 2 ^ 63 }
+    ensures within { IfOk result (λ n. n ≤ length room.new) }
+    ensures added { IfOk result (λ n. length bytes.new.items ≡ length bytes.old.items + n) }
+    ensures front { OnOk result (IsFront (V.state vault.old).files name.now bytes.old.items → IsFront (V.state vault.old).files name.now bytes.new.items) }
+    ensures end { result ≡ Ok 0 → 0 < length room.new → HasNoMore (V.state vault.old).files name.now (length bytes.old.items) }
+    ensures not_too_long { ¬ IsErrOf result ReadRefusal.TooLong }
+    ensures state { AfterReads (is_read_fault result) (V.state vault.old) (V.state vault.new) name.now }
+{
+    let given = vault.read_at(name, bytes.len() as u64, room)?;
+    bytes.extend_from_slice(&room[..given])?;
+    Ok(given)
+}
+
+// Only the length counts.
+fn make_room(alloc: Global, len: usize) -> Result<Vec<u8>, AllocError>
+    ensures { IfOk result (λ v. length v.items ≡ len) }
+{
+    vec![in alloc; 0u8; len]
 }

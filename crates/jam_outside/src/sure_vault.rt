@@ -1,0 +1,60 @@
+// A vault in memory that never fails.
+ghost use Rattle.std.specs.Prelude.{◌≡◌, ◌-◌, ◌≤◌, Ok, length, min, IfOk, IfSome};
+ghost use Rattle.jam_outside.specs.Files.{Gives, content, files_of};
+ghost use Rattle.jam_outside.specs.Causes.{AfterReads, is_failed};
+ghost use Rattle.jam_outside.specs.Memory.{sure_vault};
+
+use crate::held::{copy_part, put_file};
+use crate::{OutsideError, Vault};
+use std::alloc::Global;
+use std::collections::BTreeMap;
+use std::marker::Model;
+
+/// Files in memory, whose calls fail for want of memory alone. To contracts it is its files.
+#[derive(Drop)]
+pub struct SureVault {
+    alloc: Global,
+    held: BTreeMap<String, Vec<u8>>,
+}
+
+impl Model for SureVault {
+    ghost use Rattle.jam_outside.specs.Files.{Files, files_of};
+    ghost use Rattle.jam_outside.specs.Memory.{files_code};
+
+    ghost Value = { Files };
+
+    ghost coded = { files_code };
+
+    ghost view = { λ v. files_of v.held };
+}
+
+impl SureVault {
+    /// A vault that holds these files and no others.
+    pub fn new(alloc: Global, files: BTreeMap<String, Vec<u8>>) -> Self
+        ensures { result ≡ files_of files }
+    {
+        SureVault { alloc, held: files }
+    }
+}
+
+#[tactic(auto, using(crate::proofs::FilesLemmas::files_rules))]
+impl Vault for SureVault {
+    ghost state = { sure_vault };
+
+    /// Never fails, and gives as many bytes as fit.
+    fn read_at(&mut self, name: &str, place: u64, buf: &mut [u8]) -> Result<usize, OutsideError>
+        ensures fits { IfOk result (λ n. n ≤ length buf.new) }
+        ensures gives { IfOk result (λ n. IfSome (sure_vault self.old).files (λ held. Gives (content held name.now) place buf.new n)) }
+        ensures state { AfterReads (is_failed result) (sure_vault self.old) (sure_vault self.new) name.now }
+        ensures count { result ≡ Ok (min (length buf.new) (length (content self.old name.now) - place)) }
+    {
+        match self.held.get(name) {
+            None => Ok(0),
+            Some(file) => Ok(copy_part(file.as_slice(), place, buf)),
+        }
+    }
+
+    fn store(&mut self, name: &str, bytes: &[u8]) -> Result<(), OutsideError> {
+        put_file(self.alloc, &mut self.held, name, bytes)
+    }
+}
