@@ -1,0 +1,6 @@
+pub mod Numbers
+pub mod Bits
+pub mod Naturals
+pub mod Formats
+pub mod Fields
+pub mod Whole
