@@ -1,1 +1,4 @@
 pub mod Table
+pub mod Starts
+pub mod KeptLaws
+pub mod BlobLaws

@@ -1,7 +1,8 @@
 -- The program's table of opcodes is that of their numbers.
-use Rattle.std.proofs.Common.{◌≡◌, ◌≢◌, ℕ, zero, suc, ◌<◌, Bool, true, false, ◌&&◌, get_or, Option, Some, None, MatchOption, refl, arith, inl, inr, sym, ◌∙◌, ap}
+use Rattle.std.proofs.Common.{◌≡◌, ◌≢◌, ℕ, zero, suc, ◌<◌, Bool, true, false, ◌&&◌, get_or, length, Option, Some, None, MatchOption, refl, arith, inl, inr, sym, ◌∙◌, ap}
 use Rattle.std.specs.Prelude.{◌==◌}
-use Rattle.std.proofs.lemmas.Bool.{cases_eq, eqb-true}
+use Rattle.std.proofs.lemmas.Bool.{cases_eq, cases_lt, eqb-true}
+use Rattle.std.proofs.lemmas.List.{get_or_past}
 use Rattle.blob_decode.specs.declared.op.TheConstants.{OPS}
 use Rattle.blob_decode.specs.declared.op.Op.{Op}
 use Rattle.blob_decode.specs.declared.op.Op.TheVariants.{Trap, Fallthrough, Ecalli, LoadImm64, StoreImmU8, StoreImmU16, StoreImmU32, StoreImmU64, Jump, JumpInd, LoadImm, LoadU8, LoadI8, LoadU16, LoadI16, LoadU32, LoadI32, LoadU64, StoreU8, StoreU16, StoreU32, StoreU64, StoreImmIndU8, StoreImmIndU16, StoreImmIndU32, StoreImmIndU64, LoadImmJump, BranchEqImm, BranchNeImm, BranchLtUImm, BranchLeUImm, BranchGeUImm, BranchGtUImm, BranchLtSImm, BranchLeSImm, BranchGeSImm, BranchGtSImm, MoveReg, Sbrk, CountSetBits64, CountSetBits32, LeadingZeroBits64, LeadingZeroBits32, TrailingZeroBits64, TrailingZeroBits32, SignExtend8, SignExtend16, ZeroExtend16, ReverseBytes, StoreIndU8, StoreIndU16, StoreIndU32, StoreIndU64, LoadIndU8, LoadIndI8, LoadIndU16, LoadIndI16, LoadIndU32, LoadIndI32, LoadIndU64, AddImm32, AndImm, XorImm, OrImm, MulImm32, SetLtUImm, SetLtSImm, ShloLImm32, ShloRImm32, SharRImm32, NegAddImm32, SetGtUImm, SetGtSImm, ShloLImmAlt32, ShloRImmAlt32, SharRImmAlt32, CmovIzImm, CmovNzImm, AddImm64, MulImm64, ShloLImm64, ShloRImm64, SharRImm64, NegAddImm64, ShloLImmAlt64, ShloRImmAlt64, SharRImmAlt64, RotR64Imm, RotR64ImmAlt, RotR32Imm, RotR32ImmAlt, BranchEq, BranchNe, BranchLtU, BranchLtS, BranchGeU, BranchGeS, LoadImmJumpInd, Add32, Sub32, Mul32, DivU32, DivS32, RemU32, RemS32, ShloL32, ShloR32, SharR32, Add64, Sub64, Mul64, DivU64, DivS64, RemU64, RemS64, ShloL64, ShloR64, SharR64, And, Xor, Or, MulUpperSS, MulUpperUU, MulUpperSU, SetLtU, SetLtS, CmovIz, CmovNz, RotL64, RotL32, RotR64, RotR32, AndInv, OrInv, Xnor, Max, MaxU, Min, MinU}
@@ -183,3 +184,25 @@ by_entry n (Some op) listed_at own = eqb-true (number_of op) n own
 pub op_numbered-defined : (n : ℕ) → n < 256 → MatchOption (op_numbered n) ((op : Op) → number_of op ≢ n) (λ op. number_of op ≡ n)
 unfolding op_numbered
 op_numbered-defined n h = by_entry n (get_or OPS n None) (λ op e. ap (λ k. get_or OPS k None) (sym e) ∙ listed op) (own_at 256 table_is_own n h)
+
+-- each number has the opcode of that number alone, at every number
+pub op_numbered-listed : (op : Op) → op_numbered (number_of op) ≡ Some op
+unfolding op_numbered
+op_numbered-listed op = listed op
+
+own_number : (n : ℕ) (found : Option Op) (op : Op) → is_own n found ≡ true → found ≡ Some op → number_of op ≡ n
+unfolding is_own
+own_number n None op own e = absurd (cc e)
+own_number n (Some other) op own e =
+    let same : other ≡ op = cc in
+    ap number_of (sym same) ∙ eqb-true (number_of other) n own
+
+pub op_numbered-number : (n : ℕ) (op : Op) → op_numbered n ≡ Some op → number_of op ≡ n
+unfolding op_numbered
+op_numbered-number n op e = elim (cases_lt n 256) [
+  | inl below ↦ own_number n (get_or OPS n None) op (own_at 256 table_is_own n below) e
+  | inr past ↦
+      let size : length OPS ≡ 256 = refl in
+      let none : get_or OPS n None ≡ None = get_or_past OPS n None (omega (arith, size)) in
+      absurd (cc (none, e))
+]

@@ -1,9 +1,9 @@
 -- Programs, and the blobs that spell them (Gray Paper 0.7.0, appendix A; the layout is this project's own).
-use Rattle.std.specs.Prelude.{ℕ, zero, suc, ◌+◌, ◌-◌, ◌/◌, ◌%◌, Bool, true, false, ◌&&◌, ◌||◌, ◌==◌, nat_lt, nat_le, List, length, get_or, slice_get, if◌then◌else◌, Option, Some, None, is_some, unwrap_or}
+use Rattle.std.specs.Prelude.{◌≡◌, ◌<◌, ◌⊎◌, IsTrue, ℕ, zero, suc, ◌+◌, ◌-◌, ◌/◌, ◌%◌, Bool, true, false, ◌&&◌, ◌||◌, ◌==◌, nat_lt, nat_le, List, length, get_or, slice_get, if◌then◌else◌, Option, Some, None, is_some, unwrap_or}
 use Rattle.jam_codec.specs.Format.{Format, both, by, natural_where, fixed_where, bytes_where, bits_where, numbers_of, any}
 use Rattle.blob_decode.specs.declared.op.Op.{Op}
 use Rattle.blob_decode.specs.declared.op.Op.TheVariants.{Trap}
-use Rattle.blob_decode.specs.Opcodes.{op_numbered, is_terminator}
+use Rattle.blob_decode.specs.Opcodes.{number_of, op_numbered, is_terminator}
 
 -- the width of a jump's spelling in bytes, the targets of jumps, the code, and for each of its bytes
 -- whether an instruction begins there
@@ -65,6 +65,13 @@ some_below (suc n) test = test n || some_below n test
 -- a block begins at i: an instruction with a defined opcode, at place 0 or after one that ends a block
 unfoldable pub is_start : Program → ℕ → Bool
 is_start p i = op_begins p i && (i == 0 || some_below (length p.code) (ends_before p i))
+
+-- the same in words: an instruction with a defined opcode begins there, at place 0 or right after an instruction that ends a block
+pub record IsStart (p : Program) (i : ℕ) : Type 0 where
+  pub within : i < length p.code
+  pub begins : IsTrue (mask_bit p i)
+  pub defined : (op : Op) × (number_of op ≡ code_byte p i)
+  pub after : (i ≡ 0) ⊎ ((n : ℕ) × (n < length p.code) × IsTrue (mask_bit p n) × IsTrue (is_terminator (code_byte p n)) × (i ≡ next p n))
 
 -- where a jump leads
 pub data Landing : Type 0 where

@@ -1,0 +1,81 @@
+-- What the kept bytes say of the program.
+use Rattle.std.proofs.Common.{◌≡◌, ℕ, ◌*◌, ◌/◌, ◌%◌, ◌^◌, ◌+◌, ◌-◌, ◌<◌, ◌≤◌, zero, suc, true, false, Bool, List, length, take, drop, get_or, slice_get, nat_lt, Some, None, Ok, Err, Result, arith, refl, ap, sym, subst, ◌∙◌}
+use Rattle.std.specs.Prelude.{◌==◌}
+use Rattle.std.proofs.lemmas.Bool.{le-ltb}
+use Rattle.std.proofs.lemmas.List.{get_or_past}
+use Rattle.jam_codec.specs.Spelling.{little_endian, little_number, numbers, binary_number, binary_digits, bytes_for, packed}
+use Rattle.jam_codec.specs.Reading.{Reading, Reads, bytes_at, past}
+use Rattle.jam_codec.specs.Format.{numbers_of}
+use Rattle.jam_codec.specs.Laws.{AreBytes}
+use Rattle.jam_codec.proofs.Bits.{length-binary_digits, length-packed, binary_digits-of_bytes, binary_number-below, binary_number-fits}
+use Rattle.jam_codec.proofs.Numbers.{numbers-get, little_number-little_endian, items_at-numbers_front, items_at-missing}
+use Rattle.blob_decode.specs.Program.{mask_bit, skip}
+use Rattle.blob_decode.specs.Kept.{program_of, Keeps}
+use Rattle.blob_decode.proofs.Starts.{gap-here}
+
+pub mask_bit-kept : (count width : ℕ) (table code mask : List ℕ) (i : ℕ) → Keeps count width table code mask → i < length code → mask_bit (program_of count width table code mask) i ≡ (get_or mask (i / 8) 0 / 2 ^ (i % 8) % 2 == 1)
+mask_bit-kept count width table code mask i keeps within =
+    binary_digits-of_bytes mask (length code) i true keeps.bytes (omega (arith, keeps.bits)) within
+
+pub mask_bit-past : (count width : ℕ) (table code mask : List ℕ) (i : ℕ) → length code ≤ i → mask_bit (program_of count width table code mask) i ≡ true
+mask_bit-past count width table code mask i past =
+    get_or_past (binary_digits (length code) (little_number mask)) i true (omega (arith, length-binary_digits (length code) (little_number mask)))
+
+-- an entry of the jump table, in the bytes of the table
+pub jump-kept : (count width k w x : ℕ) (table slice : List ℕ) → k < count → w ≡ width → slice ≡ table → x ≡ little_number (take (k * w + w - k * w) (drop (k * w) slice)) → Some x ≡ slice_get (numbers width count table) k
+jump-kept count width k w x table slice within wide same e =
+    let size : k * w + w - k * w ≡ w = omega arith in
+    let bytes : take (k * w + w - k * w) (drop (k * w) slice) ≡ take width (drop (k * width) table) = rw (size, wide, same) refl in
+    ap Some (e ∙ ap little_number bytes) ∙ sym (numbers-get width count k table within)
+
+-- what the program says, the kept bytes say
+pub skip-past : (count width : ℕ) (table code mask : List ℕ) (pc : ℕ) → length code ≤ pc → skip (program_of count width table code mask) pc ≡ 0
+skip-past count width table code mask pc past =
+    gap-here (program_of count width table code mask) (pc + 1) 24 (mask_bit-past count width table code mask (pc + 1) (omega arith))
+
+-- what was read keeps to it
+AreBytes-little_endian : (n x : ℕ) → AreBytes (little_endian n x)
+unfolding little_endian
+AreBytes-little_endian zero x k = omega arith
+AreBytes-little_endian (suc n) x zero = omega arith
+AreBytes-little_endian (suc n) x (suc k) = AreBytes-little_endian n (x / 256) k
+
+packed-below : (bits : List Bool) → little_number (packed bits) < 2 ^ length bits
+packed-below bits =
+    omega (arith, little_number-little_endian (bytes_for (length bits)) (binary_number bits) (binary_number-fits bits), binary_number-below bits)
+
+pub Keeps-read : (count width size : ℕ) (table code mask : List ℕ) → count < 2 ^ 64 → width ≤ 8 → length table ≡ count * width → length code ≡ size → mask ≡ packed (binary_digits size (little_number mask)) → Keeps count width table code mask
+Keeps-read count width size table code mask counted narrow jumps sized packs =
+    let bits : List Bool = binary_digits size (little_number mask) in
+    let many : length bits ≡ length code = length-binary_digits size (little_number mask) ∙ sym sized in
+    record {
+      counted = counted;
+      narrow = narrow;
+      jumps = jumps;
+      bits = ap length packs ∙ length-packed bits ∙ ap bytes_for many;
+      spare = omega (arith, ap little_number packs, packed-below bits, ap (λ (n : ℕ). 2 ^ n) many);
+      bytes = subst AreBytes (sym packs) (AreBytes-little_endian (bytes_for (length bits)) (binary_number bits));
+    }
+
+-- the jumps, read as their bytes
+pub Reads-numbers : {X E : Type 0} → (place : E → ℕ) (now : X → List ℕ) (result : Result X E) (new r : Reading) (width n size : ℕ) → size ≡ n * width → size ≤ length r.rest → Reads place now result new (bytes_at size r) → Reads place (λ x. numbers width n (now x)) result new ((numbers_of width n).read r)
+unfolding bytes_at
+Reads-numbers place now (Ok x) new r width n size sized enough is =
+    let long : nat_lt (length r.rest) size ≡ false = le-ltb (length r.rest) size enough in
+    let found : Result (List ℕ × Reading) ℕ = Ok (take size r.rest, past size r) in
+    let here : found ≡ Ok (now x, new) = rw long at is in
+    let same : (let p : List ℕ × Reading = (take size r.rest, past size r) in p) ≡ (now x, new) = cc in
+    let at : ℕ → Result (List ℕ × Reading) ℕ = λ k. Ok (numbers width n (take k r.rest), past k r) in
+    let of : List ℕ × Reading → Result (List ℕ × Reading) ℕ = λ q. Ok (numbers width n q.0, q.1) in
+    items_at-numbers_front width n None r (omega arith) ∙ ap at (sym sized) ∙ ap of same
+Reads-numbers place now (Err e) new r width n size sized enough is =
+    let long : nat_lt (length r.rest) size ≡ false = le-ltb (length r.rest) size enough in
+    let found : Result (List ℕ × Reading) ℕ = Ok (take size r.rest, past size r) in
+    let here : found ≡ Err (place e) = rw long at is in
+    absurd (cc here)
+
+-- some bytes of the jumps are missing
+pub numbers-missing : (width n left w begin place : ℕ) (r : Reading) → length r.rest < n * width → left ≡ length r.rest → w ≡ width → begin ≡ r.place → place ≡ begin + left / w * w → (numbers_of width n).read r ≡ Err place
+numbers-missing width n left w begin place r short many same front e =
+    let at : r.place + length r.rest / width * width ≡ place = sym (e ∙ (rw (many, same, front) refl)) in
+    items_at-missing width n None r short ∙ ap (λ (k : ℕ). Err k) at

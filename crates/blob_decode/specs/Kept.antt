@@ -1,0 +1,23 @@
+-- What is kept of a program blob, and the program that it stands for.
+use Rattle.std.specs.Prelude.{◌≡◌, ℕ, ◌*◌, ◌^◌, ◌<◌, ◌≤◌, List, length}
+use Rattle.jam_codec.specs.Spelling.{little_number, numbers, binary_digits, bytes_for}
+use Rattle.jam_codec.specs.Laws.{AreBytes}
+use Rattle.blob_decode.specs.Program.{Program}
+
+-- how many jumps and their width, and the bytes that spell the jumps, the code and the mask
+abbrev pub program_of : ℕ → ℕ → List ℕ → List ℕ → List ℕ → Program
+program_of count width table code mask = record {
+  width = width;
+  jumps = numbers width count table;
+  code = code;
+  mask = binary_digits (length code) (little_number mask);
+}
+
+-- the bytes are as long as the program asks, and no spare bit of the mask is set
+pub record Keeps (count width : ℕ) (table code mask : List ℕ) : Type 0 where
+  pub counted : count < 2 ^ 64
+  pub narrow : width ≤ 8
+  pub jumps : length table ≡ count * width
+  pub bits : length mask ≡ bytes_for (length code)
+  pub spare : little_number mask < 2 ^ length code
+  pub bytes : AreBytes mask
