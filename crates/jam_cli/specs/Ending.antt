@@ -5,7 +5,7 @@ use Rattle.jam_outside.specs.Files.{Files, content}
 use Rattle.jam_outside.specs.Causes.{VaultState, SinkState, Rose, Appends, AppendsPrefix}
 use Rattle.jam_cli.specs.declared.status.Status.{Status}
 use Rattle.jam_cli.specs.declared.status.Status.TheVariants.{Done, NoMemory, BadWords, ReadFault, TooLong, Refused, SinkFault}
-use Rattle.jam_cli.specs.Command.{Command, Input, inputs, Values, ValueOf, SpellsValue, printed, stored}
+use Rattle.jam_cli.specs.Command.{Command, Asks, AsksNothing, Input, inputs, Values, ValueOf, SpellsValue, printed, stored}
 
 -- what is known of the outside at a call's begin and at its end
 pub record Call : Type 0 where
@@ -90,3 +90,93 @@ Ends (ReadFault word) c k = Rose k.vault.read_faults k.vault_after.read_faults �
 Ends (TooLong word) c k = IfSome k.vault.files (λ files. FirstTooLong files (inputs c) word) × PrintedNothing k × KeepsFiles k
 Ends (Refused word place) c k = (place ≡ 0) × IfSome k.vault.files (λ files. AllRead files (inputs c) × FirstRefused files (inputs c) word) × PrintedNothing k × KeepsFiles k
 Ends SinkFault c k = Rose k.sink.faults k.sink_after.faults × IfSome k.vault.files (λ files. PrintedPrefix k files c) × KeepsFiles k
+
+-- how a call with these words ends
+abbrev pub CallEnds : Status → List (List ℕ) → Call → Type 0
+CallEnds BadWords words k = AsksNothing words × PrintedNothing k × KeepsFiles k
+CallEnds NoMemory words k = (PrintedNothing k ⊎ ((c : Command) × Asks c words × IfSome k.vault.files (λ files. PrintedPrefix k files c))) × KeepsFiles k
+CallEnds status words k = (c : Command) × Asks c words × Ends status c k
+
+abbrev pub call : VaultState → VaultState → SinkState → SinkState → Call
+call vault vault_after sink sink_after = record { vault = vault; vault_after = vault_after; sink = sink; sink_after = sink_after }
+
+-- What each status of a call says, and where it comes.
+
+-- Done: all was printed and stored, and nothing else
+abbrev pub DoneMeans : Status → List (List ℕ) → Call → Type 0
+DoneMeans status words k = status ≡ Done → IfSome k.vault.files (λ files. (c : Command) × Asks c words × PrintedAll k files c × StoredAll k files c)
+
+-- BadWords: exactly where no line of the table has the words
+abbrev pub BadWordsMeans : Status → List (List ℕ) → Type 0
+BadWordsMeans status words = status ≡ BadWords → AsksNothing words
+
+abbrev pub BadWordsComes : Status → List (List ℕ) → Type 0
+BadWordsComes status words = AsksNothing words → (status ≡ BadWords) ⊎ (status ≡ NoMemory)
+
+-- ReadFault: only where a read failed in this call, and the word is the first whose name is the one at which it did
+abbrev pub ReadFaultMeans : Status → List (List ℕ) → Call → Type 0
+ReadFaultMeans status words k = (word : ℕ) → status ≡ ReadFault word
+    → Rose k.vault.read_faults k.vault_after.read_faults × ((c : Command) × Asks c words × FirstNamed k.vault_after.failed (inputs c) word)
+
+-- neither a failed read nor want of memory ended the call
+abbrev pub ReadThrough : Status → Type 0
+ReadThrough NoMemory = ⊥
+ReadThrough (ReadFault word) = ⊥
+ReadThrough status = Unit {0}
+
+-- TooLong: exactly where the files before were read, and this one holds more than is read
+abbrev pub TooLongMeans : Status → List (List ℕ) → Call → Type 0
+TooLongMeans status words k = (word : ℕ) → status ≡ TooLong word → IfSome k.vault.files (λ files. (c : Command) × Asks c words × FirstTooLong files (inputs c) word)
+
+abbrev pub TooLongComes : Status → List (List ℕ) → Call → Type 0
+TooLongComes status words k = ReadThrough status
+    → IfSome k.vault.files (λ files. (c : Command) (word : ℕ) → Asks c words → FirstTooLong files (inputs c) word → status ≡ TooLong word)
+
+-- Refused: exactly where all files were read, those before spell, and this one spells no value of its kind; the place is 0 for now
+abbrev pub RefusedMeans : Status → List (List ℕ) → Call → Type 0
+RefusedMeans status words k = (word place : ℕ) → status ≡ Refused word place
+    → (place ≡ 0) × IfSome k.vault.files (λ files. (c : Command) × Asks c words × AllRead files (inputs c) × FirstRefused files (inputs c) word)
+
+abbrev pub RefusedComes : Status → List (List ℕ) → Call → Type 0
+RefusedComes status words k = ReadThrough status
+    → IfSome k.vault.files (λ files. (c : Command) (word : ℕ) → Asks c words → AllRead files (inputs c) → FirstRefused files (inputs c) word → status ≡ Refused word 0)
+
+-- SinkFault: only where the sink failed in this call; a prefix was printed
+abbrev pub SinkFaultMeans : Status → List (List ℕ) → Call → Type 0
+SinkFaultMeans status words k = status ≡ SinkFault
+    → Rose k.sink.faults k.sink_after.faults × IfSome k.vault.files (λ files. (c : Command) × Asks c words × PrintedPrefix k files c)
+
+-- NoMemory: a prefix was printed where the command has a text for the files, else nothing
+abbrev pub NoMemoryMeans : Status → List (List ℕ) → Call → Type 0
+NoMemoryMeans status words k = status ≡ NoMemory
+    → PrintedNothing k ⊎ ((c : Command) × Asks c words × IfSome k.vault.files (λ files. PrintedPrefix k files c))
+
+-- at these endings nothing was printed
+abbrev pub IsSilent : Status → Type 0
+IsSilent BadWords = Unit {0}
+IsSilent (ReadFault word) = Unit {0}
+IsSilent (TooLong word) = Unit {0}
+IsSilent (Refused word place) = Unit {0}
+IsSilent status = ⊥
+
+abbrev pub SilentMeans : Status → Call → Type 0
+SilentMeans status k = IsSilent status → PrintedNothing k
+
+-- every ending but Done leaves the files
+abbrev pub OthersKeepFiles : Status → Call → Type 0
+OthersKeepFiles status k = status ≢ Done → KeepsFiles k
+
+-- the files of a command are told, were not too long and spell values of their kinds, and no call of the outside failed
+pub record IsServed (words : List (List ℕ)) (k : Call) : Type 0 where
+  pub files : Files
+  pub told : k.vault.files ≡ Some files
+  pub command : Command
+  pub asks : Asks command words
+  pub values : Values (inputs command)
+  pub gives : Gives files command values
+  pub reads : Rose k.vault.read_faults k.vault_after.read_faults → ⊥
+  pub puts : Rose k.sink.faults k.sink_after.faults → ⊥
+
+-- then the call is done, unless memory runs out
+abbrev pub ServedIsDone : Status → List (List ℕ) → Call → Type 0
+ServedIsDone status words k = IsServed words k → (status ≡ Done) ⊎ (status ≡ NoMemory)

@@ -4,3 +4,5 @@ pub mod History
 pub mod Transcript
 pub mod Command
 pub mod Ending
+pub mod Machine
+pub mod Parts

@@ -2,7 +2,14 @@
 #![tactic(auto)]
 
 mod act;
+mod arguments;
 mod exit;
+mod input;
+mod machine;
 mod status;
+mod top;
+mod transcript;
+mod words;
 
 pub use status::Status;
+pub use top::jam;
