@@ -4,3 +4,4 @@ pub mod Lines
 pub mod Effects
 pub mod Numbers
 pub mod Runs
+pub mod Gas

@@ -1,5 +1,5 @@
 -- The history of a machine: its states, one after each instruction.
-use Rattle.std.specs.Prelude.{◌≡◌, ℕ, zero, suc, ◌≤◌, Bool, true, false, ◌&&◌, List, [], ◌∷◌, replicate, if◌then◌else◌, Option, Some, None, IsSome}
+use Rattle.std.specs.Prelude.{◌≡◌, ℕ, zero, suc, ◌+◌, ◌≤◌, Bool, true, false, ◌&&◌, List, [], ◌∷◌, replicate, if◌then◌else◌, Option, Some, None, IsSome}
 use Rattle.std.specs.FinMap as fin
 use Rattle.blob_decode.specs.Program.{Program}
 use Rattle.jam_cli.specs.declared.exit.Exit.{Exit}
@@ -68,3 +68,7 @@ has_halted None = false
 unfoldable pub output : Moment → List ℕ
 output m = if has_halted m.exit && readable m.state.memory (value_in m.state 7) (value_in m.state 8)
     then bytes_from m.state.memory (value_in m.state 7) (value_in m.state 8) else []
+
+-- the same with more gas left
+abbrev pub gain : ℕ → Moment → Moment
+gain more m = record m { gas = m.gas + more }

@@ -5,11 +5,13 @@ mod act;
 mod arguments;
 mod exit;
 mod input;
+mod laws;
 mod machine;
 mod status;
 mod top;
 mod transcript;
 mod words;
 
+pub use laws::history_laws;
 pub use status::Status;
 pub use top::jam;

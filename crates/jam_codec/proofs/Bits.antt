@@ -1,12 +1,13 @@
 -- Bits and the numbers whose binary digits they are.
-use Rattle.std.proofs.Common.{◌≡◌, ℕ, zero, suc, ◌+◌, ◌-◌, ◌*◌, ◌/◌, ◌%◌, ◌^◌, ◌<◌, ◌≤◌, ◌==◌, Bool, true, false, List, [], ◌∷◌, ◌++◌, length, take, drop, get_or, slice_get, Some, None, Option, refl, sym, ap, ◌∙◌, subst, lit<, arith, inl, inr, ◌↔◌, length-append, if◌then◌else◌}
+use Rattle.std.proofs.Common.{◌≡◌, ℕ, zero, suc, ◌+◌, ◌-◌, ◌*◌, ◌/◌, ◌%◌, ◌^◌, ◌<◌, ◌≤◌, ◌==◌, Bool, true, false, List, [], ◌∷◌, ◌++◌, length, take, drop, get_or, slice_get, Some, refl, sym, ap, ◌∙◌, lit<, arith, inl, inr, ◌↔◌, length-append, if◌then◌else◌, nat_lt, IsTrue}
 use Rattle.std.proofs.Math.Nat.{pow-le-pow_right, mul-le-mul_left, pow-succ', zero-div, div-div-eq-div-mul, add-mul-div_left, div-eq_of_lt}
 use Rattle.std.proofs.lemmas.List.{take_at, drop_at, length-take-le, drop_more, drop_all, take-append-drop}
 use Rattle.std.proofs.lemmas.Option.{slice_get_within, get_or_from_slice_get}
-use Rattle.std.proofs.lemmas.Nat.{pow-add, pow_pos, le-div, div_below, shr-shr}
-use Rattle.std.proofs.lemmas.Bool.{cases_lt, eq-eqb, ne_eqb}
+use Rattle.std.proofs.lemmas.Nat.{pow-add, pow_pos, le-div, shr-shr}
+use Rattle.std.specs.Bool.{OnFalse}
+use Rattle.std.proofs.lemmas.Bool.{cases_lt, eq-eqb, ne_eqb, lt-ltb, ltb-true, OnFalse_from}
 use Rattle.std.proofs.lemmas.Bool.Decides.{nat_tests}
-use Rattle.jam_codec.specs.Spelling.{little_endian, little_number, binary_number, binary_digits, bytes_for, packed}
+use Rattle.jam_codec.specs.Spelling.{little_number, binary_number, binary_digits, bytes_for, packed}
 use Rattle.jam_codec.specs.Laws.{AreBytes}
 use Rattle.jam_codec.proofs.Numbers.{AreBytes-tail, AreBytes-take, little_number-append, little_number-below, little_number-little_endian, little_endian-little_number, length-little_endian}
 
@@ -172,3 +173,30 @@ spare_bits bytes n last b size found some =
             omega (arith, p.number)
       ],
     )
+
+-- what `has_spare_bit` says of its answer
+pub record Spare (bytes : List ℕ) (n : ℕ) (b : Bool) : Type 0 where
+  pub spare : IsTrue b ↔ (2 ^ n ≤ little_number bytes)
+  pub clean : OnFalse b (bytes ≡ packed (binary_digits n (little_number bytes)))
+
+Spare-test : (bytes : List ℕ) (n : ℕ) (b : Bool) → AreBytes bytes → length bytes ≡ bytes_for n → (IsTrue b ↔ (2 ^ n ≤ little_number bytes)) → Spare bytes n b
+Spare-test bytes n b are size test =
+    let below : b ≡ false → little_number bytes < 2 ^ n = λ e. elim (cases_lt (little_number bytes) (2 ^ n)) [
+      | inl less ↦ less
+      | inr more ↦ let spare : b ≡ true = test.1 more in absurd (cc (sym e ∙ spare))
+    ] in
+    record {
+      spare = test;
+      clean = OnFalse_from b (bytes ≡ packed (binary_digits n (little_number bytes))) (λ (e : b ≡ false). packed-found bytes n are size (below e));
+    }
+
+pub Spare-last : (bytes : List ℕ) (n last : ℕ) → AreBytes bytes → length bytes ≡ bytes_for n → slice_get bytes (length bytes - 1) ≡ Some last → 0 < n % 8 → Spare bytes n (nat_lt 0 (last / 2 ^ (n % 8)))
+Spare-last bytes n last are size found some =
+    let same : (2 ^ n ≤ little_number bytes) ↔ (0 < last / 2 ^ (n % 8)) = spare_bits bytes n last are size found some in
+    Spare-test bytes n (nat_lt 0 (last / 2 ^ (n % 8))) are size
+    (λ t. same.1 (ltb-true 0 (last / 2 ^ (n % 8)) t), λ h. lt-ltb 0 (last / 2 ^ (n % 8)) (same.0 h))
+
+pub Spare-whole : (bytes : List ℕ) (n : ℕ) (b : Bool) → AreBytes bytes → length bytes ≡ bytes_for n → n % 8 ≡ 0 → b ≡ false → Spare bytes n b
+Spare-whole bytes n b are size whole e =
+    let below : little_number bytes < 2 ^ n = no_spare_bits bytes n are size whole in
+    Spare-test bytes n b are size (λ t. absurd (cc (sym e ∙ t)), λ h. absurd (omega arith))

@@ -1,11 +1,11 @@
 -- The laws of the fields.
-use Rattle.std.proofs.Common.{◌≡◌, ℕ, zero, suc, ◌+◌, ◌-◌, ◌*◌, ◌^◌, ◌<◌, ◌≤◌, Bool, true, false, List, [], ◌∷◌, ◌++◌, length, take, drop, refl, sym, ap, ◌∙◌, subst, arith, Option, Some, None, Result, Ok, Err, nat_lt, if◌then◌else◌, length-append, take-append-drop}
+use Rattle.std.proofs.Common.{◌≡◌, ℕ, ◌+◌, ◌-◌, ◌*◌, ◌^◌, ◌<◌, ◌≤◌, Bool, true, false, List, ◌++◌, length, take, refl, sym, ap, ◌∙◌, subst, arith, Option, Some, None, Result, Ok, Err, nat_lt, if◌then◌else◌, length-append, take-append-drop}
 use Rattle.std.proofs.lemmas.List.{take_at, drop_at, length-take-le}
 use Rattle.std.proofs.lemmas.Bool.{le-ltb, ltb-false, lt-ltb, ltb-true}
 use Rattle.jam_codec.specs.Spelling.{natural, little_endian, little_number, binary_digits, binary_number, bytes_for, packed}
 use Rattle.jam_codec.specs.Reading.{Reading, Takes, past, natural_of, moved, natural_at, bytes_at, fixed_at, bits_at}
-use Rattle.jam_codec.specs.Format.{Format, from, any, natural_where, fixed_where, bytes_where, bits_where, numbers_of}
-use Rattle.jam_codec.specs.Laws.{AreBytes, IsCode, IsFormat}
+use Rattle.jam_codec.specs.Format.{from, any, natural_where, fixed_where, bytes_where, bits_where, numbers_of}
+use Rattle.jam_codec.specs.Laws.{IsCode, IsFormat}
 use Rattle.jam_codec.proofs.Numbers.{AreBytes-take, little_number-below, little_number-little_endian, little_endian-little_number, length-little_endian}
 use Rattle.jam_codec.proofs.Naturals.{natural_of-natural, natural-Takes}
 use Rattle.jam_codec.proofs.Bits.{Front, packed-Front, packed-found, length-packed, length-binary_digits, binary_digits-binary_number}

@@ -1,7 +1,7 @@
 -- The laws of formats: of one field, and of each way to put formats together.
 use Rattle.std.proofs.Common.{◌≡◌, ℕ, zero, suc, ◌+◌, ◌≤◌, Bool, true, false, List, [], ◌∷◌, ◌++◌, length, refl, sym, ap, ◌∙◌, subst, arith, inl, inr, ◌⊎◌, ◌↔◌, Option, Some, None, Result, Ok, Err, if◌then◌else◌, append_assoc, append-nil, length-append}
 use Rattle.jam_codec.specs.Reading.{Reading, Takes, ◌>>=◌}
-use Rattle.jam_codec.specs.Format.{Format, Spells, from, passing, field_where, both, by, items_fit, items_spelled, items_run, items_at, times}
+use Rattle.jam_codec.specs.Format.{Format, from, passing, field_where, both, by, items_fit, items_spelled, items_run, items_at, times}
 use Rattle.jam_codec.specs.Laws.{AreBytes, IsCode, Longest, IsFormat, HasOneSpelling, HasNoPrefix}
 use Rattle.jam_codec.proofs.Numbers.{AreBytes-rest}
 
@@ -211,11 +211,11 @@ module _ {A B : Type 0} (f : Format A) (g : A → Format B) (F : IsFormat f) (G 
   }
 
 -- a format whose values are those of another, seen otherwise
-record Same {A B : Type 0} (view : A → B) (f : Format A) (h : Format B) : Type 0 where
-  fits : (a : A) → f.Fits a → h.Fits (view a) × (h.spell (view a) ≡ f.spell a)
-  onto : (b : B) → h.Fits b → (a : A) × f.Fits a × (view a ≡ b)
-  run : (run : List ℕ) → h.Run run ↔ f.Run run
-  reads : (r : Reading) → h.read r ≡ (f.read r >>= λ x. Ok (view x.0, x.1))
+pub record Same {A B : Type 0} (view : A → B) (f : Format A) (h : Format B) : Type 0 where
+  pub fits : (a : A) → f.Fits a → h.Fits (view a) × (h.spell (view a) ≡ f.spell a)
+  pub onto : (b : B) → h.Fits b → (a : A) × f.Fits a × (view a ≡ b)
+  pub run : (run : List ℕ) → h.Run run ↔ f.Run run
+  pub reads : (r : Reading) → h.read r ≡ (f.read r >>= λ x. Ok (view x.0, x.1))
 
 module _ {A B : Type 0} (view : A → B) (f : Format A) (h : Format B) (F : IsFormat f) (same : Same view f h) where
   -- what is behind a value
@@ -263,7 +263,7 @@ module _ {A B : Type 0} (view : A → B) (f : Format A) (h : Format B) (F : IsFo
     | inr x ↦ absurd (cc x.2)
   ]
 
-  same_laws : IsFormat h
+  pub same_laws : IsFormat h
   same_laws = record {
     code = record { again = same_again; found = same_found };
     all = λ b hb. let a : Behind b = behind b hb in (same.run (h.spell b)).1 (subst f.Run (sym a.spelled) (F.all a.value a.fits));

@@ -1,5 +1,5 @@
 -- The one spelling of a natural.
-use Rattle.std.proofs.Common.{◌≡◌, ℕ, zero, suc, ◌+◌, ◌-◌, ◌*◌, ◌/◌, ◌%◌, ◌^◌, ◌<◌, ◌≤◌, Bool, true, false, List, [], ◌∷◌, ◌++◌, length, take, drop, refl, sym, ap, ◌∙◌, subst, lit<, arith, inl, inr, Option, Some, None, nat_lt, if◌then◌else◌, length-append, take-append-drop, add-one}
+use Rattle.std.proofs.Common.{◌≡◌, ℕ, zero, suc, ◌+◌, ◌-◌, ◌*◌, ◌/◌, ◌%◌, ◌^◌, ◌<◌, ◌≤◌, Bool, true, false, List, [], ◌∷◌, ◌++◌, length, take, drop, refl, sym, ap, ◌∙◌, lit<, arith, inl, inr, Option, Some, None, nat_lt, if◌then◌else◌, length-append, take-append-drop}
 use Rattle.std.proofs.Math.Nat.{pow-le-pow_right, mul-le-mul_right}
 use Rattle.std.proofs.lemmas.List.{take_at, drop_at, length-take-le}
 use Rattle.std.proofs.lemmas.Nat.{pow-add, pow_pos, shr_high, mod_low, div_below, mod_below, div-add-mod'}
@@ -90,16 +90,22 @@ passed : {A : Type 0} → (b : Bool) (o : Option A) (y : A) → (if b then None 
 passed true o y e = absurd (cc e)
 passed false o y e = (refl, e)
 
+abbrev joined_read : ℕ → ℕ → List ℕ → Option (ℕ × List ℕ)
+joined_read first l tail = Some (joined first l tail, drop l tail)
+
+abbrev least_read : ℕ → ℕ → List ℕ → Option (ℕ × List ℕ)
+least_read first l tail = if nat_lt (joined first l tail) (least_with l) then None else joined_read first l tail
+
 natural_after-After : (first l : ℕ) (tail : List ℕ) (x : ℕ) (rest : List ℕ) → natural_after first l tail ≡ Some (x, rest) → After first l tail x rest
 natural_after-After first l tail x rest e =
-    let a : (nat_lt (length tail) l ≡ false) × ((if nat_lt (joined first l tail) (least_with l) then None else Some (joined first l tail, drop l tail)) ≡ Some (x, rest)) =
-    passed (nat_lt (length tail) l) (if nat_lt (joined first l tail) (least_with l) then None else Some (joined first l tail, drop l tail)) (x, rest) e in
-    let b : (nat_lt (joined first l tail) (least_with l) ≡ false) × ((let o : Option (ℕ × List ℕ) = Some (joined first l tail, drop l tail) in o) ≡ Some (x, rest)) =
-    passed (nat_lt (joined first l tail) (least_with l)) (Some (joined first l tail, drop l tail)) (x, rest) a.1 in
-    let same : (joined first l tail ≡ x) × (drop l tail ≡ rest) = some_pair_parts (joined first l tail) x (drop l tail) rest b.1 in
+    let long : (nat_lt (length tail) l ≡ false) × (least_read first l tail ≡ Some (x, rest)) =
+    passed (nat_lt (length tail) l) (least_read first l tail) (x, rest) e in
+    let least : (nat_lt (joined first l tail) (least_with l) ≡ false) × (joined_read first l tail ≡ Some (x, rest)) =
+    passed (nat_lt (joined first l tail) (least_with l)) (joined_read first l tail) (x, rest) long.1 in
+    let same : (joined first l tail ≡ x) × (drop l tail ≡ rest) = some_pair_parts (joined first l tail) x (drop l tail) rest least.1 in
     record {
-      long = ltb-false (length tail) l a.0;
-      least = omega (arith, ltb-false (joined first l tail) (least_with l) b.0, same.0);
+      long = ltb-false (length tail) l long.0;
+      least = omega (arith, ltb-false (joined first l tail) (least_with l) least.0, same.0);
       value = sym same.0;
       left = sym same.1;
     }

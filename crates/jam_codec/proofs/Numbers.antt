@@ -1,20 +1,17 @@
 -- Numbers and the bytes that spell them, the least significant first.
-use Rattle.std.proofs.Common.{◌≡◌, ℕ, zero, suc, ◌+◌, ◌-◌, ◌*◌, ◌/◌, ◌%◌, ◌^◌, ◌<◌, ◌≤◌, List, [], ◌∷◌, ◌++◌, length, take, drop, get_or, refl, sym, ap, ◌∙◌, subst, lit<, arith, Ok, Err, Some, None, slice_get, Option, Result, add-zero, zero-mul, mul-zero, le_refl, inl, inr}
+use Rattle.std.proofs.Common.{◌≡◌, ℕ, zero, suc, ◌+◌, ◌-◌, ◌*◌, ◌/◌, ◌%◌, ◌^◌, ◌<◌, ◌≤◌, List, [], ◌∷◌, ◌++◌, length, take, drop, refl, sym, ap, ◌∙◌, subst, arith, Ok, Err, Some, None, slice_get, Option, add-zero, zero-mul, mul-zero, le_refl, inl, inr}
 use Rattle.std.proofs.Math.Nat.{div-eq_of_lt, div-eq-sub-div}
-use Rattle.std.proofs.lemmas.List.{get_or-drop, get_or-take, drop_at, drop-drop, take-take, drop-take, length-append, length-drop, nil_from_length, take_all}
+use Rattle.std.proofs.lemmas.List.{get_or-drop, drop_at, drop-drop, take-take, drop-take, length-drop, take_all}
 use Rattle.std.proofs.lemmas.Nat.{pow-add}
 use Rattle.std.proofs.lemmas.Bool.{cases_lt, le-ltb, lt-ltb}
 use Rattle.byteorder.specs.Endian.{little_from}
 use Rattle.byteorder.specs.Numbers.{little_from-cons}
 use Rattle.jam_codec.specs.Spelling.{little_endian, little_number, numbers}
 use Rattle.jam_codec.specs.Reading.{Reading, past, fixed_at}
-use Rattle.jam_codec.specs.Format.{fixed_where, any, items_at, passing}
+use Rattle.jam_codec.specs.Format.{fixed_where, any, items_at}
 use Rattle.jam_codec.specs.Laws.{AreBytes}
 
 -- parts of bytes are bytes
-pub bytes_below : (bytes : List ℕ) → AreBytes bytes → (k : ℕ) → get_or bytes k 0 < 256
-bytes_below bytes b k = b k
-
 pub AreBytes-tail : (first : ℕ) (bytes : List ℕ) → AreBytes (first ∷ bytes) → AreBytes bytes
 AreBytes-tail first bytes b k = b (suc k)
 

@@ -1,7 +1,7 @@
 // A place in bytes, from which fields are read one after another.
 ghost use Rattle.std.specs.Prelude.{◌≡◌, ◌+◌, ◌*◌, ◌^◌, ◌<◌, ◌≤◌, List, ℕ, Bool, [], ◌++◌, length, IfOk, IfErr, OnErr, IsTrue, ◌↔◌};
 ghost use Rattle.jam_codec.specs.Reading.{Reading, Takes, Reads, natural_at, fixed_at, bytes_at, bits_at};
-ghost use Rattle.jam_codec.specs.Spelling.{natural, little_endian, little_number, binary_digits, packed};
+ghost use Rattle.jam_codec.specs.Spelling.{natural, little_endian, little_number, binary_digits, bytes_for, packed};
 
 use crate::natural::{number_of, split_natural};
 use crate::spare::has_spare_bit;
@@ -10,6 +10,7 @@ use std::marker::Model;
 /// No field spells at this place.
 #[derive(Clone, Copy, Debug, PartialEq, Eq)]
 pub struct Malformed {
+    /// How many bytes stand before it.
     pub place: u64,
 }
 
@@ -72,7 +73,7 @@ impl<'a> Cursor<'a> {
         ensures malformed { IfErr result (λ e. (e.place ≡ self.old.place) × (length self.old.rest < n)) }
         ensures err { OnErr result (self.new ≡ self.old) }
     {
-        if (self.rest.len() as u64) < n {
+        if self.remaining() < n {
             return Err(Malformed { place: self.place });
         }
         let (front, rest) = self.rest.split_at(n as usize);
@@ -126,6 +127,7 @@ impl<'a> Cursor<'a> {
     #[tactic(auto, unfolding(crate::specs::Reading::bits_at))]
     pub fn bits(&mut self, n: u64) -> Result<&'a [u8], Malformed>
         ensures exact { Reads (λ e. e.place) (λ found. binary_digits n (little_number found.now)) result self.new (bits_at n self.old) }
+        ensures size { IfOk result (λ found. length found.now ≡ bytes_for n) }
         ensures ok { IfOk result (λ found. (found.now ≡ packed (binary_digits n (little_number found.now))) × Takes self.old found.now self.new) }
         ensures malformed { IfErr result (λ e. (e.place ≡ self.old.place)
             × ((x : List Bool) (tail : List ℕ) → length x ≡ n → self.old.rest ≡ packed x ++ tail → ⊥)) }

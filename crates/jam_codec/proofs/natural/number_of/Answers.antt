@@ -1,4 +1,4 @@
-use Rattle.std.proofs.Common.{arith, eqb-true, length, ◌≡◌, sym, ◌∙◌}
+use Rattle.std.proofs.Common.{arith, eqb-true, length, sym, ◌∙◌}
 use Rattle.jam_codec.proofs.Numbers.{OfBytes, numbers_of_bytes, number_of_none}
 use Rattle.jam_codec.proofs.natural.number_of.Goals as goal
 

@@ -1,5 +1,4 @@
 use Rattle.std.proofs.Common.{arith, rules, ◌≡◌, Some}
-use Rattle.std.proofs.lemmas.Grind.{common_steps}
 use Rattle.jam_codec.specs.Reading.{natural_of}
 use Rattle.jam_codec.proofs.Naturals.{natural_of-found}
 use Rattle.jam_codec.proofs.natural.split_natural.Goals as goal

@@ -1,42 +1,25 @@
-use Rattle.std.proofs.Common.{arith, ◌≡◌, ◌↔◌, ◌≤◌, ◌<◌, ◌^◌, ◌/◌, ◌%◌, ◌-◌, length, lt-ltb, ltb-true, Some, slice_get, inl, inr, sym, ap, ◌∙◌}
-use Rattle.std.proofs.lemmas.Bool.{OnFalse_from, ltb-false, cases_lt}
+use Rattle.std.proofs.Common.{arith, ◌≡◌, ◌/◌, ◌%◌, ◌^◌, ◌-◌, ◌≤◌, length, nat_lt, Some, false, slice_get, sym, ap, ◌∙◌, refl}
+use Rattle.std.proofs.lemmas.Bool.{le-ltb}
 use Rattle.std.specs.Option.{option_copied}
-use Rattle.jam_codec.specs.Spelling.{little_number, packed, binary_digits}
-use Rattle.jam_codec.proofs.Bits.{spare_bits, no_spare_bits, packed-found}
+use Rattle.jam_codec.proofs.Bits.{Spare, Spare-last, Spare-whole}
 use Rattle.jam_codec.proofs.spare.has_spare_bit.Goals as goal
 
-pub returns-then-used-gt0-clause-spare : goal.returns-then-used-gt0-clause-spare
-returns-then-used-gt0-clause-spare c =
+pub returns-then-used-gt0 : goal.returns-then-used-gt0
+returns-then-used-gt0 c =
     let last : slice_get c.args.bytes.now (length c.args.bytes.now - 1) ≡ Some c.in-Some.last.now = sym c.last.ensures.value ∙ ap (λ o. option_copied o) c.in-Some.is in
-    let same : (2 ^ c.args.n ≤ little_number c.args.bytes.now) ↔ (0 < c.in-Some.last.now / 2 ^ (c.args.n % 8)) =
-    spare_bits c.args.bytes.now c.args.n c.in-Some.last.now (λ k. omega (arith, c.type_inv.bytes k)) c.requires last c.if-used-gt0.true in
-    (λ h. same.1 (ltb-true 0 (c.in-Some.last.now / 2 ^ (c.args.n % 8)) h), λ h. lt-ltb 0 (c.in-Some.last.now / 2 ^ (c.args.n % 8)) (same.0 h))
+    let found : Spare c.args.bytes.now c.args.n (nat_lt 0 (c.in-Some.last.now / 2 ^ (c.args.n % 8))) =
+    Spare-last c.args.bytes.now c.args.n c.in-Some.last.now (λ k. omega (arith, c.type_inv.bytes k)) c.requires last c.if-used-gt0.true in
+    record { spare = found.spare; packed = found.clean }
 
-pub returns-then-used-gt0-clause-packed : goal.returns-then-used-gt0-clause-packed
-returns-then-used-gt0-clause-packed c =
-    let last : slice_get c.args.bytes.now (length c.args.bytes.now - 1) ≡ Some c.in-Some.last.now = sym c.last.ensures.value ∙ ap (λ o. option_copied o) c.in-Some.is in
-    OnFalse_from _ _ (λ h.
-    packed-found c.args.bytes.now c.args.n (λ k. omega (arith, c.type_inv.bytes k)) c.requires
-    (elim (cases_lt (little_number c.args.bytes.now) (2 ^ c.args.n)) [
-      | inl below ↦ below
-      | inr above ↦
-          let some : 0 < c.in-Some.last.now / 2 ^ (c.args.n % 8) =
-          (spare_bits c.args.bytes.now c.args.n c.in-Some.last.now (λ k. omega (arith, c.type_inv.bytes k)) c.requires last c.if-used-gt0.true).0 above in
-          absurd (omega (arith, ltb-false 0 (c.in-Some.last.now / 2 ^ (c.args.n % 8)) h))
-    ]))
+pub returns-else-used-gt0 : goal.returns-else-used-gt0
+returns-else-used-gt0 c =
+    let found : Spare c.args.bytes.now c.args.n (nat_lt 0 (c.args.n % 8)) =
+    Spare-whole c.args.bytes.now c.args.n (nat_lt 0 (c.args.n % 8)) (λ k. omega (arith, c.type_inv.bytes k)) c.requires (omega arith) (le-ltb 0 (c.args.n % 8) c.if-used-gt0.false) in
+    record { spare = found.spare; packed = found.clean }
 
-pub returns-else-used-gt0-clause-spare : goal.returns-else-used-gt0-clause-spare
-returns-else-used-gt0-clause-spare c =
-    let below : little_number c.args.bytes.now < 2 ^ c.args.n = no_spare_bits c.args.bytes.now c.args.n (λ k. omega (arith, c.type_inv.bytes k)) c.requires (omega arith) in
-    (λ h. absurd (omega (arith, ltb-true 0 (c.args.n % 8) h)), λ h. absurd (omega arith))
-
-pub returns-else-used-gt0-clause-packed : goal.returns-else-used-gt0-clause-packed
-returns-else-used-gt0-clause-packed c =
-    let below : little_number c.args.bytes.now < 2 ^ c.args.n = no_spare_bits c.args.bytes.now c.args.n (λ k. omega (arith, c.type_inv.bytes k)) c.requires (omega arith) in
-    OnFalse_from _ _ (λ h. packed-found c.args.bytes.now c.args.n (λ k. omega (arith, c.type_inv.bytes k)) c.requires below)
-
-pub returns-in-None-clause-packed : goal.returns-in-None-clause-packed
-returns-in-None-clause-packed c =
+pub returns-in-None : goal.returns-in-None
+returns-in-None c =
     let empty : length c.args.bytes.now ≤ 0 = c.in-None.ensures.item.3 in
-    let below : little_number c.args.bytes.now < 2 ^ c.args.n = no_spare_bits c.args.bytes.now c.args.n (λ k. omega (arith, c.type_inv.bytes k)) c.requires (omega (arith, c.requires)) in
-    packed-found c.args.bytes.now c.args.n (λ k. omega (arith, c.type_inv.bytes k)) c.requires below
+    let found : Spare c.args.bytes.now c.args.n false =
+    Spare-whole c.args.bytes.now c.args.n false (λ k. omega (arith, c.type_inv.bytes k)) c.requires (omega (arith, c.requires)) refl in
+    record { spare = found.spare; packed = found.clean }

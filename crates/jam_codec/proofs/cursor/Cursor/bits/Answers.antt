@@ -1,4 +1,4 @@
-use Rattle.std.proofs.Common.{arith, ◌≡◌, ◌+◌, ◌∙◌, ap, length, List, ℕ, Bool, take}
+use Rattle.std.proofs.Common.{arith, ◌≡◌, ◌∙◌, ap, length, ℕ, take}
 use Rattle.jam_codec.specs.Spelling.{bytes_for, little_number}
 use Rattle.jam_codec.specs.Reading.{Reading}
 use Rattle.jam_codec.proofs.Bits.{Front, packed-Front}
