@@ -1,12 +1,12 @@
 -- What an instruction does: one line for each opcode (Gray Paper 0.7.0, appendix A; the opcodes' effects are this project's own).
-use Rattle.std.specs.Prelude.{ℕ, ◌+◌, ◌%◌, ◌^◌, Bool, List, get_or, set, if◌then◌else◌, Option, Some, None, is_some}
+use Rattle.std.specs.Prelude.{ℕ, ◌+◌, ◌-◌, ◌%◌, ◌^◌, ◌==◌, not, Bool, List, get_or, set, if◌then◌else◌, Option, Some, None, is_some}
 use Rattle.blob_decode.specs.declared.op.Op.{Op}
-use Rattle.blob_decode.specs.declared.op.Op.TheVariants.{Trap, JumpInd, LoadImm}
+use Rattle.blob_decode.specs.declared.op.Op.TheVariants.{Trap, Fallthrough, Ecalli, Jump, JumpInd, LoadImm, MoveReg, BranchEq, BranchNe, Add64, Sub64}
 use Rattle.blob_decode.specs.Opcodes.{form_of}
 use Rattle.blob_decode.specs.Program.{Program, Landing, to, halts, nowhere, op_at, next, jump_to, jump_through}
 use Rattle.blob_decode.specs.Arguments.{Arguments, arguments}
 use Rattle.jam_cli.specs.declared.exit.Exit.{Exit}
-use Rattle.jam_cli.specs.declared.exit.Exit.TheVariants.{Halt, Panic}
+use Rattle.jam_cli.specs.declared.exit.Exit.TheVariants.{Halt, Panic, Host}
 use Rattle.jam_cli.specs.declared.act.Act.{Act}
 use Rattle.jam_cli.specs.declared.act.Act.TheVariants.{Nothing, Exits, Gives, Jumps, Branches, JumpsThrough}
 use Rattle.jam_cli.specs.Memory.{Memory}
@@ -23,8 +23,16 @@ value_in s register = get_or s.registers register 0
 -- the table of effects; a line that is not there is of an opcode that is not built
 unfoldable pub line : Op → Option (Arguments → State → Act)
 line Trap = Some (λ a s. Exits Panic)
+line Fallthrough = Some (λ a s. Nothing)
+line Ecalli = Some (λ a s. Exits (Host a.x))
+line Jump = Some (λ a s. Jumps a.target)
 line JumpInd = Some (λ a s. JumpsThrough ((value_in s a.a + a.x) % 2 ^ 32))
 line LoadImm = Some (λ a s. Gives a.a a.x)
+line MoveReg = Some (λ a s. Gives a.d (value_in s a.a))
+line BranchEq = Some (λ a s. Branches (value_in s a.a == value_in s a.b) a.target)
+line BranchNe = Some (λ a s. Branches (not (value_in s a.a == value_in s a.b)) a.target)
+line Add64 = Some (λ a s. Gives a.d ((value_in s a.a + value_in s a.b) % 2 ^ 64))
+line Sub64 = Some (λ a s. Gives a.d ((value_in s a.a + (2 ^ 64 - value_in s a.b)) % 2 ^ 64))
 line _ = None
 
 abbrev pub is_built : Op → Bool

@@ -1,8 +1,8 @@
 // The arguments of the instruction at a place.
-ghost use Rattle.std.specs.Prelude.{◌≡◌, ◌<◌, ◌≤◌, ◌*◌, ◌^◌, length};
-ghost use Rattle.blob_decode.specs.Opcodes.{F6};
-ghost use Rattle.blob_decode.specs.Program.{code_byte};
-ghost use Rattle.blob_decode.specs.Arguments.{sign_extended, immediate, arguments};
+ghost use Rattle.std.specs.Prelude.{◌≡◌, ◌<◌, ◌≤◌, ◌+◌, ◌-◌, ◌*◌, ◌^◌, min};
+ghost use Rattle.blob_decode.specs.Opcodes.{F2, F5, F6, F9, F11, F13};
+ghost use Rattle.blob_decode.specs.Program.{code_byte, skip};
+ghost use Rattle.blob_decode.specs.Arguments.{sign_extended, immediate, offset, register, low, high, arguments};
 ghost use Rattle.jam_cli.specs.Machine.{seen};
 
 use blob_decode::Program;
@@ -62,17 +62,134 @@ fn code_byte(program: &Program, place: u64) -> u8
     program.code().get(place as usize).copied().unwrap_or(0)
 }
 
+// The place at a signed offset, if it is not below 0.
+fn at_offset(place: u64, distance: u64) -> Option<u64>
+    requires { place < 2 ^ 63 }
+    ensures { result ≡ offset place distance }
+{
+    if distance < 1 << 63 {
+        Some(place + distance)
+    } else {
+        place.checked_sub(distance.wrapping_neg())
+    }
+}
+
+fn low_register(program: &Program, pc: u64) -> u8
+    requires { pc < 2 ^ 63 }
+    ensures value { result ≡ register (low program.now pc) }
+    ensures bound { result < 13 }
+{
+    (code_byte(program, pc + 1) % 16).min(12)
+}
+
+fn high_register(program: &Program, pc: u64) -> u8
+    requires { pc < 2 ^ 63 }
+    ensures value { result ≡ register (high program.now pc) }
+    ensures bound { result < 13 }
+{
+    (code_byte(program, pc + 1) / 16).min(12)
+}
+
+// The immediate after the registers' byte, up to the next instruction.
+fn immediate_after_registers(program: &Program, pc: u64) -> u64
+    requires { pc < 2 ^ 63 }
+    ensures { result ≡ immediate program.now (pc + 2) (min 4 (skip program.now pc - 1)) }
+{
+    let size = program.skip(pc).saturating_sub(1).min(4);
+    immediate(program, pc + 2, size)
+}
+
+// The immediate after the opcode, up to the next instruction.
+fn immediate_after_opcode(program: &Program, pc: u64) -> u64
+    requires { pc < 2 ^ 63 }
+    ensures { result ≡ immediate program.now (pc + 1) (min 4 (skip program.now pc)) }
+{
+    let size = program.skip(pc).min(4);
+    immediate(program, pc + 1, size)
+}
+
+/// An immediate alone.
+#[tactic(auto, unfolding(blob_decode::specs::Arguments::arguments))]
+pub fn one_immediate(program: &Program, pc: u64) -> Arguments
+    requires { pc < 2 ^ 63 }
+    ensures arguments { seen result ≡ arguments F2 program.now pc }
+{
+    Arguments {
+        x: immediate_after_opcode(program, pc),
+        ..NONE
+    }
+}
+
+/// An offset alone.
+#[tactic(auto, unfolding(blob_decode::specs::Arguments::arguments))]
+pub fn one_offset(program: &Program, pc: u64) -> Arguments
+    requires { pc < 2 ^ 63 }
+    ensures arguments { seen result ≡ arguments F5 program.now pc }
+{
+    Arguments {
+        target: at_offset(pc, immediate_after_opcode(program, pc)),
+        ..NONE
+    }
+}
+
 /// A register and an immediate.
 #[tactic(auto, unfolding(blob_decode::specs::Arguments::arguments))]
 pub fn register_and_immediate(program: &Program, pc: u64) -> Arguments
     requires { pc < 2 ^ 63 }
     ensures arguments { seen result ≡ arguments F6 program.now pc }
-    ensures register { result.a < 13 }
+    ensures a { result.a < 13 }
 {
-    let size = program.skip(pc).saturating_sub(1).min(4);
     Arguments {
-        a: (code_byte(program, pc + 1) % 16).min(12),
-        x: immediate(program, pc + 2, size),
+        a: low_register(program, pc),
+        x: immediate_after_registers(program, pc),
+        ..NONE
+    }
+}
+
+/// Two registers.
+#[tactic(auto, unfolding(blob_decode::specs::Arguments::arguments))]
+pub fn two_registers(program: &Program, pc: u64) -> Arguments
+    requires { pc < 2 ^ 63 }
+    ensures arguments { seen result ≡ arguments F9 program.now pc }
+    ensures a { result.a < 13 }
+    ensures d { result.d < 13 }
+{
+    Arguments {
+        a: high_register(program, pc),
+        d: low_register(program, pc),
+        ..NONE
+    }
+}
+
+/// Two registers and an offset.
+#[tactic(auto, unfolding(blob_decode::specs::Arguments::arguments))]
+pub fn two_registers_and_offset(program: &Program, pc: u64) -> Arguments
+    requires { pc < 2 ^ 63 }
+    ensures arguments { seen result ≡ arguments F11 program.now pc }
+    ensures a { result.a < 13 }
+    ensures b { result.b < 13 }
+{
+    Arguments {
+        a: low_register(program, pc),
+        b: high_register(program, pc),
+        target: at_offset(pc, immediate_after_registers(program, pc)),
+        ..NONE
+    }
+}
+
+/// Three registers.
+#[tactic(auto, unfolding(blob_decode::specs::Arguments::arguments))]
+pub fn three_registers(program: &Program, pc: u64) -> Arguments
+    requires { pc < 2 ^ 63 }
+    ensures arguments { seen result ≡ arguments F13 program.now pc }
+    ensures a { result.a < 13 }
+    ensures b { result.b < 13 }
+    ensures d { result.d < 13 }
+{
+    Arguments {
+        a: low_register(program, pc),
+        b: high_register(program, pc),
+        d: code_byte(program, pc + 2).min(12),
         ..NONE
     }
 }

@@ -61,7 +61,20 @@ fn is_built(program: &Program) -> bool
 fn has_effect(op: Op) -> bool
     ensures { result ≡ is_built op }
 {
-    matches!(op, Op::Trap | Op::JumpInd | Op::LoadImm)
+    matches!(
+        op,
+        Op::Trap
+            | Op::Fallthrough
+            | Op::Ecalli
+            | Op::Jump
+            | Op::JumpInd
+            | Op::LoadImm
+            | Op::MoveReg
+            | Op::BranchEq
+            | Op::BranchNe
+            | Op::Add64
+            | Op::Sub64
+    )
 }
 
 /// The program that bytes spell, with built opcodes alone.

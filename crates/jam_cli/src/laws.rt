@@ -19,5 +19,4 @@ pub fn history_laws()
         take (suc gas) (history p (gas + more) s) ≡ map (gain more) (take (suc gas) (history p gas s)) }
     ensures gas_used { (p : Program) (gas more : ℕ) (s : State) →
         ((answer p gas s).exit ≡ Some OutOfGas → ⊥) → answer p (gas + more) s ≡ gain more (answer p gas s) }
-{
-}
+{}

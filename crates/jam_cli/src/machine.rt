@@ -1,12 +1,15 @@
 // A machine that runs a program.
 ghost use Rattle.std.specs.Prelude.{◌≡◌, ◌<◌, ◌^◌, Some, replicate};
 ghost use Rattle.blob_decode.specs.Program.{op_at, next, jump_to, jump_through};
-ghost use Rattle.jam_cli.specs.Effect.{State, act_of, after, effect, lands};
+ghost use Rattle.jam_cli.specs.Effect.{State, value_in, act_of, after, effect, lands};
 ghost use Rattle.jam_cli.specs.History.{step, answer};
 ghost use Rattle.jam_cli.specs.Machine.{state_of, after_of, moment, NamesRegister};
 
 use crate::act::Act;
-use crate::arguments::register_and_immediate;
+use crate::arguments::{
+    one_immediate, one_offset, register_and_immediate, three_registers, two_registers,
+    two_registers_and_offset,
+};
 use crate::exit::Exit;
 use blob_decode::{Op, Program};
 
@@ -34,6 +37,13 @@ impl Machine {
         }
     }
 
+    fn value(&self, register: u8) -> u64
+        requires { register < 13 }
+        ensures { result ≡ value_in (state_of self.now) register }
+    {
+        self.registers[usize::from(register)]
+    }
+
     // What the instruction at the pc does.
     #[tactic(auto, unfolding(crate::specs::Effect::act_of, crate::specs::Effect::line, blob_decode::specs::Opcodes::entry))]
     fn act(&self) -> Act
@@ -41,16 +51,39 @@ impl Machine {
         ensures act { result ≡ act_of (op_at self.now.program self.now.pc) self.now.program (state_of self.now) }
         ensures register { NamesRegister result }
     {
-        match self.program.op_at(self.pc) {
+        let program = &self.program;
+        match program.op_at(self.pc) {
             Op::Trap => Act::Exits(Exit::Panic),
+            Op::Fallthrough => Act::Nothing,
+            Op::Ecalli => Act::Exits(Exit::Host(one_immediate(program, self.pc).x)),
+            Op::Jump => Act::Jumps(one_offset(program, self.pc).target),
             Op::JumpInd => {
-                let at = register_and_immediate(&self.program, self.pc);
-                let base = self.registers[usize::from(at.a)];
-                Act::JumpsThrough(base.wrapping_add(at.x) % (1 << 32))
+                let at = register_and_immediate(program, self.pc);
+                Act::JumpsThrough(self.value(at.a).wrapping_add(at.x) % (1 << 32))
             }
             Op::LoadImm => {
-                let at = register_and_immediate(&self.program, self.pc);
+                let at = register_and_immediate(program, self.pc);
                 Act::Gives(at.a, at.x)
+            }
+            Op::MoveReg => {
+                let at = two_registers(program, self.pc);
+                Act::Gives(at.d, self.value(at.a))
+            }
+            Op::BranchEq => {
+                let at = two_registers_and_offset(program, self.pc);
+                Act::Branches(self.value(at.a) == self.value(at.b), at.target)
+            }
+            Op::BranchNe => {
+                let at = two_registers_and_offset(program, self.pc);
+                Act::Branches(self.value(at.a) != self.value(at.b), at.target)
+            }
+            Op::Add64 => {
+                let at = three_registers(program, self.pc);
+                Act::Gives(at.d, self.value(at.a).wrapping_add(self.value(at.b)))
+            }
+            Op::Sub64 => {
+                let at = three_registers(program, self.pc);
+                Act::Gives(at.d, self.value(at.a).wrapping_sub(self.value(at.b)))
             }
             _ => Act::Exits(Exit::Panic),
         }
