@@ -1,11 +1,11 @@
 -- Where instructions and blocks begin.
-use Rattle.std.proofs.Common.{◌≡◌, ℕ, zero, suc, ◌+◌, ◌-◌, ◌<◌, ◌≤◌, Bool, true, false, ◌&&◌, ◌||◌, ◌⊎◌, ◌↔◌, IsTrue, List, length, get_or, Option, Some, None, is_some, refl, arith, inl, inr, sym, ◌∙◌, ap, subst}
-use Rattle.std.specs.Prelude.{◌==◌, nat_lt, nat_le}
+use Rattle.std.proofs.Common.{◌≡◌, ℕ, zero, suc, ◌+◌, ◌-◌, ◌<◌, ◌≤◌, Bool, true, false, ◌&&◌, ◌||◌, ◌↔◌, IsTrue, length, Option, Some, None, is_some, refl, arith, inl, inr, sym, ◌∙◌, ap}
+use Rattle.std.specs.Prelude.{◌==◌, nat_lt}
 use Rattle.std.specs.Bool.{Decides}
 use Rattle.std.proofs.lemmas.Bool.{cases_lt, cases_order, cases_Bool, eqb-true, eq-eqb, ltb-true, lt-ltb, and_parts, and_from, or_cases, or_left, or_right, false_from_ne_true}
-use Rattle.std.proofs.lemmas.Bool.Decides.{Decides-below_or, Decides-like, Decides-and, Decides-eqb}
+use Rattle.std.proofs.lemmas.Bool.Decides.{Decides-below_or}
 use Rattle.blob_decode.specs.Opcodes.{number_of, op_numbered, is_terminator}
-use Rattle.blob_decode.specs.Program.{Program, mask_bit, code_byte, gap, skip, next, op_begins, ends_before, some_below, is_start, IsStart}
+use Rattle.blob_decode.specs.Program.{Program, mask_bit, code_byte, gap, next, op_begins, ends_before, some_below, is_start, IsStart}
 use Rattle.blob_decode.specs.declared.op.Op.{Op}
 use Rattle.blob_decode.proofs.Table.{op_numbered-listed, op_numbered-number}
 
@@ -34,16 +34,16 @@ gap-stops p k zero j from begins = omega arith
 gap-stops p k (suc n) j from begins = elim (cases_Bool (mask_bit p k)) [
   | inl here ↦ rw here (omega arith)
   | inr goes ↦ elim (cases_lt k j) [
-      | inl less ↦ rw goes (omega (arith, gap-stops p (k + 1) n j (omega arith) begins))
-      | inr more ↦
-          let same : j ≡ k = omega arith in
-          let both : true ≡ false = sym begins ∙ ap (mask_bit p) same ∙ goes in
-          absurd (cc both)
-    ]
+    | inl less ↦ rw goes (omega (arith, gap-stops p (k + 1) n j (omega arith) begins))
+    | inr more ↦
+        let same : j ≡ k = omega arith in
+        let both : true ≡ false = sym begins ∙ ap (mask_bit p) same ∙ goes in
+        absurd (cc both)
+  ]
 ]
 
 -- m places stand before the next instruction, where none of them begins one
-gap-is : (p : Program) (k n m : ℕ) → m ≤ n → ((j : ℕ) → k ≤ j → j < k + m → mask_bit p j ≡ false) → (m < n → mask_bit p (k + m) ≡ true) → gap p k n ≡ m
+pub gap-is : (p : Program) (k n m : ℕ) → m ≤ n → ((j : ℕ) → k ≤ j → j < k + m → mask_bit p j ≡ false) → (m < n → mask_bit p (k + m) ≡ true) → gap p k n ≡ m
 unfolding gap
 gap-is p k zero m most none ends = omega arith
 gap-is p k (suc n) zero most none ends =
@@ -53,8 +53,8 @@ gap-is p k (suc n) zero most none ends =
 gap-is p k (suc n) (suc m) most none ends =
     let goes : mask_bit p k ≡ false = none k (omega arith) (omega arith) in
     let more : gap p (k + 1) n ≡ m =
-        gap-is p (k + 1) n m (omega arith) (λ j from below. none j (omega arith) (omega arith))
-        (λ less. let place : k + suc m ≡ k + 1 + m = omega arith in ap (mask_bit p) (sym place) ∙ ends (omega arith)) in
+    gap-is p (k + 1) n m (omega arith) (λ j from below. none j (omega arith) (omega arith))
+    (λ less. let place : k + suc m ≡ k + 1 + m = omega arith in ap (mask_bit p) (sym place) ∙ ends (omega arith)) in
     rw goes (omega (arith, more))
 
 -- the nearest instruction before i, at most 25 places before it
@@ -69,7 +69,7 @@ next-nearest p i n nearest begins =
     let place : n + 1 + (i - n - 1) ≡ i = omega (arith, nearest.before) in
     let most : i - n - 1 ≤ 24 = omega (arith, nearest.near) in
     let is : gap p (n + 1) 24 ≡ i - n - 1 =
-        gap-is p (n + 1) 24 (i - n - 1) most (λ j from below. nearest.none j (omega arith) (omega (arith, place))) (λ less. ap (mask_bit p) place ∙ begins) in
+    gap-is p (n + 1) 24 (i - n - 1) most (λ j from below. nearest.none j (omega arith) (omega (arith, place))) (λ less. ap (mask_bit p) place ∙ begins) in
     omega (arith, is, place)
 
 -- no other instruction ends there
@@ -77,11 +77,11 @@ only-nearest : (p : Program) (i n k : ℕ) → IsNearest p i n → mask_bit p k 
 only-nearest p i n k nearest begins ends = elim (cases_order k n) [
   | inl same ↦ same
   | inr other ↦ elim other [
-      | inl less ↦ absurd (omega (arith, gap-stops p (k + 1) 24 n (omega arith) nearest.begins, nearest.before, ends))
-      | inr more ↦
-          let none : mask_bit p k ≡ false = nearest.none k (omega arith) (omega (arith, ends)) in
-          absurd (cc (begins, none))
-    ]
+    | inl less ↦ absurd (omega (arith, gap-stops p (k + 1) 24 n (omega arith) nearest.begins, nearest.before, ends))
+    | inr more ↦
+        let none : mask_bit p k ≡ false = nearest.none k (omega arith) (omega (arith, ends)) in
+        absurd (cc (begins, none))
+  ]
 ]
 
 none-before : (p : Program) (i k : ℕ) → ((j : ℕ) → j < i → i ≤ j + 25 → mask_bit p j ≡ false) → mask_bit p k ≡ true → next p k ≡ i → ⊥
@@ -121,18 +121,18 @@ ended-nearest p i n nearest within begins = elim (cases_Bool (is_terminator (cod
   | inl ends ↦ (ended-Decides p i).1 (n, within, nearest.begins, ends, next-nearest p i n nearest begins) ∙ sym ends
   | inr goes ↦
       false_from_ne_true (ended p i) (λ e.
-          let k : (k : ℕ) × (k < length p.code) × (mask_bit p k ≡ true) × (is_terminator (code_byte p k) ≡ true) × (next p k ≡ i) = (ended-Decides p i).0 e in
-          let same : k.0 ≡ n = only-nearest p i n k.0 nearest k.2 k.4 in
-          let ends : is_terminator (code_byte p n) ≡ true = ap (λ (j : ℕ). is_terminator (code_byte p j)) (sym same) ∙ k.3 in
-          absurd (cc (ends, goes)))
+      let k : (k : ℕ) × (k < length p.code) × (mask_bit p k ≡ true) × (is_terminator (code_byte p k) ≡ true) × (next p k ≡ i) = (ended-Decides p i).0 e in
+      let same : k.0 ≡ n = only-nearest p i n k.0 nearest k.2 k.4 in
+      let ends : is_terminator (code_byte p n) ≡ true = ap (λ (j : ℕ). is_terminator (code_byte p j)) (sym same) ∙ k.3 in
+      absurd (cc (ends, goes)))
       ∙ sym goes
 ]
 
 pub ended-none : (p : Program) (i : ℕ) → ((j : ℕ) → j < i → i ≤ j + 25 → mask_bit p j ≡ false) → ended p i ≡ false
 ended-none p i none =
     false_from_ne_true (ended p i) (λ e.
-        let k : (k : ℕ) × (k < length p.code) × (mask_bit p k ≡ true) × (is_terminator (code_byte p k) ≡ true) × (next p k ≡ i) = (ended-Decides p i).0 e in
-        none-before p i k.0 none k.2 k.4)
+    let k : (k : ℕ) × (k < length p.code) × (mask_bit p k ≡ true) × (is_terminator (code_byte p k) ≡ true) × (next p k ≡ i) = (ended-Decides p i).0 e in
+    none-before p i k.0 none k.2 k.4)
 
 -- an instruction with a defined opcode, in words
 some_number : (b : ℕ) (found : Option Op) → ((op : Op) → found ≡ Some op → number_of op ≡ b) → is_some found ≡ true → (op : Op) × (number_of op ≡ b)

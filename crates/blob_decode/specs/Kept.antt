@@ -1,5 +1,5 @@
 -- What is kept of a program blob, and the program that it stands for.
-use Rattle.std.specs.Prelude.{◌≡◌, ℕ, ◌*◌, ◌^◌, ◌<◌, ◌≤◌, List, length}
+use Rattle.std.specs.Prelude.{◌≡◌, ℕ, ◌*◌, ◌/◌, ◌%◌, ◌^◌, ◌<◌, ◌≤◌, List, length}
 use Rattle.jam_codec.specs.Spelling.{little_number, numbers, binary_digits, bytes_for}
 use Rattle.jam_codec.specs.Laws.{AreBytes}
 use Rattle.blob_decode.specs.Program.{Program}
@@ -21,3 +21,9 @@ pub record Keeps (count width : ℕ) (table code mask : List ℕ) : Type 0 where
   pub bits : length mask ≡ bytes_for (length code)
   pub spare : little_number mask < 2 ^ length code
   pub bytes : AreBytes mask
+
+-- n of the lowest 24 bits of a number stand before the first that is set
+pub record FirstSet (bits n : ℕ) : Type 0 where
+  pub most : n ≤ 24
+  pub zeros : (j : ℕ) → j < n → bits / 2 ^ j % 2 ≡ 0
+  pub one : n < 24 → bits / 2 ^ n % 2 ≡ 1

@@ -12,12 +12,10 @@ pub fn blob_laws()
     ensures one_value { HasOneSpelling program_blob }
     ensures no_prefix { HasNoPrefix program_blob }
     ensures place { IsFormat program_blob }
-{
-}
+{}
 
 /// A block begins exactly where an instruction with a defined opcode stands at place 0, or right
 /// after an instruction that ends a block.
 pub fn start_law()
     ensures { (p : Program) (i : ℕ) → IsTrue (is_start p i) ↔ IsStart p i }
-{
-}
+{}

@@ -9,3 +9,6 @@ mod program;
 pub use laws::{blob_laws, start_law};
 pub use op::{Op, op_of};
 pub use program::{Program, ProgramRefusal};
+
+#[cfg(test)]
+mod tests;

@@ -1,11 +1,11 @@
 // The fields of a blob, in its bytes.
-ghost use Rattle.std.specs.Prelude.{◌≡◌, ◌*◌, ◌^◌, ◌<◌, ◌≤◌, IfOk, MatchResult, Ok, Err, length};
-ghost use Rattle.jam_codec.specs.Spelling.{little_number, numbers, binary_digits, bytes_for};
+ghost use Rattle.std.specs.Prelude.{◌≡◌, ◌*◌, ◌≤◌, IfOk, MatchResult, Ok, Err, length};
+ghost use Rattle.jam_codec.specs.Spelling.{little_number, numbers, binary_digits};
 ghost use Rattle.jam_codec.specs.Reading.{Reads};
 ghost use Rattle.jam_codec.specs.Format.{numbers_of, whole};
 ghost use Rattle.blob_decode.specs.Program.{program_blob};
 ghost use Rattle.blob_decode.specs.Kept.{program_of, Keeps};
-ghost use Rattle.blob_decode.specs.Parts.{lists, sized};
+ghost use Rattle.blob_decode.specs.Parts.{lists};
 
 use jam_codec::{Cursor, Malformed};
 
@@ -37,7 +37,12 @@ fn read_table<'a>(cursor: &mut Cursor<'a>, count: u64, width: u8) -> Result<&'a 
 }
 
 // The jumps, the code and the mask.
-fn read_lists<'a>(cursor: &mut Cursor<'a>, count: u64, width: u8, size: u64) -> Result<Parts<'a>, Malformed>
+fn read_lists<'a>(
+    cursor: &mut Cursor<'a>,
+    count: u64,
+    width: u8,
+    size: u64,
+) -> Result<Parts<'a>, Malformed>
     requires { width ≤ 8 }
     ensures exact { Reads (λ e. e.place) (λ p. (numbers p.width p.count p.table.now, (p.code.now, binary_digits (length p.code.now) (little_number p.mask.now)))) result cursor.new ((lists count width size).read cursor.old) }
     ensures keeps { IfOk result (λ p. Keeps p.count p.width p.table.now p.code.now p.mask.now) }

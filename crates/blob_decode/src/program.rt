@@ -1,9 +1,12 @@
 // A program in memory.
-ghost use Rattle.std.specs.Prelude.{◌≡◌, ◌<◌, ◌≤◌, ◌+◌, ◌^◌, ℕ, true, false, IfSome, IfNone, IfOk, IfErr, IsErrOf, length, slice_get};
+ghost use Rattle.std.specs.Prelude.{◌≡◌, ◌<◌, ◌≤◌, ◌+◌, ◌^◌, ℕ, true, false, None, if◌then◌else◌, IfSome, IfNone, IfOk, IfErr, IsErrOf, length, take, drop, slice_get};
+ghost use Rattle.jam_codec.specs.Spelling.{little_number};
 ghost use Rattle.jam_codec.specs.Format.{Spells};
 ghost use Rattle.blob_decode.specs.declared.program.ProgramRefusal.TheVariants.{NoMemory};
+ghost use Rattle.blob_decode.specs.Opcodes.{op_numbered};
 ghost use Rattle.blob_decode.specs.Refusal.{IsAtFront};
-ghost use Rattle.blob_decode.specs.Program.{program_blob, mask_bit, op_begins, op_at, gap, skip, is_start, ends_before, some_below};
+ghost use Rattle.blob_decode.specs.Kept.{FirstSet};
+ghost use Rattle.blob_decode.specs.Program.{program_blob, mask_bit, code_byte, op_begins, op_at, gap, skip, is_start, ends_before, some_below};
 
 use crate::op::{Op, is_terminator, op_of};
 use crate::parts::parts_of;
@@ -51,11 +54,33 @@ impl Model for Program {
     ghost invariant = { λ p. Keeps p.count p.width p.table.items p.code.items p.mask.items };
 }
 
+// Four bytes of the mask as a number.
+#[inline]
+fn window(mask: &[u8], first: usize) -> u32
+    requires { first + 4 ≤ length mask.now }
+    ensures { result ≡ little_number (take 4 (drop first mask.now)) }
+{
+    u32::from_le_bytes([
+        mask[first],
+        mask[first + 1],
+        mask[first + 2],
+        mask[first + 3],
+    ])
+}
+
+// Of the lowest 24 bits, how many stand before the first that is set.
+#[inline]
+fn zeros_before(bits: u32) -> u8
+    ensures { FirstSet bits result }
+{
+    (bits | 1 << 24).trailing_zeros() as u8
+}
+
 impl Program {
     /// The program that a blob spells: all of its bytes, and no others after them.
     ///
     /// # Errors
-    /// `NotProgram` where no program is spelled so, and `NoMemory`.
+    /// `NotProgram` at place 0 where no program is spelled so, and `NoMemory`.
     pub fn deblob(alloc: Global, bytes: &[u8]) -> Result<Program, ProgramRefusal>
         ensures found { IfOk result (λ p. Spells program_blob p bytes.now) }
         ensures refused { (p : _) → Spells program_blob p bytes.now → (place : ℕ) → IsErrOf result (ProgramRefusal.NotProgram place) → ⊥ }
@@ -77,14 +102,17 @@ impl Program {
     }
 
     /// The bytes of the code.
+    #[inline]
     pub fn code(&self) -> &[u8]
         ensures value { result.now ≡ self.now.code }
         ensures small { length self.now.code < 2 ^ 63 }
+        ensures masked { length self.now.mask ≡ length self.now.code }
     {
         self.code.as_slice()
     }
 
     /// Whether an instruction begins at the place; past the code one does.
+    #[inline]
     pub fn mask_at(&self, place: u64) -> bool
         ensures { result ≡ mask_bit self.now place }
     {
@@ -94,25 +122,24 @@ impl Program {
         (self.mask[(place / 8) as usize] >> (place % 8)) % 2 == 1
     }
 
-    // Whether an instruction with a defined opcode begins at the place.
-    fn op_begins(&self, place: u64) -> bool
-        ensures { result ≡ op_begins self.now place }
+    // The opcode of the instruction at the place, where one with a defined opcode begins.
+    #[inline]
+    fn opcode(&self, place: u64) -> Option<Op>
+        ensures { result ≡ (if op_begins self.now place then op_numbered (code_byte self.now place) else None) }
     {
         if place >= self.code.len() as u64 || !self.mask_at(place) {
-            return false;
+            return None;
         }
-        op_of(self.code[place as usize]).is_some()
+        op_of(self.code[place as usize])
     }
 
     /// The opcode of the instruction at the place; `Trap` where none with a defined opcode begins.
+    #[inline]
     #[tactic(auto, unfolding(crate::specs::Program::op_at))]
     pub fn op_at(&self, pc: u64) -> Op
         ensures { result ≡ op_at self.now pc }
     {
-        if pc >= self.code.len() as u64 || !self.mask_at(pc) {
-            return Op::Trap;
-        }
-        op_of(self.code[pc as usize]).unwrap_or(Op::Trap)
+        self.opcode(pc).unwrap_or(Op::Trap)
     }
 
     // Of so many places, how many stand before the first at which an instruction begins.
@@ -129,16 +156,23 @@ impl Program {
         most
     }
 
-    /// How many bytes of arguments the instruction at the place has.
+    /// How many bytes of arguments the instruction at the place has: those up to the next one, and
+    /// at most 24.
+    #[inline]
     pub fn skip(&self, pc: u64) -> u8
         ensures value { result ≡ skip self.now pc }
         ensures most { result ≤ 24 }
     {
-        let size = self.code.len() as u64;
-        if pc >= size {
+        if pc >= self.code.len() as u64 {
             return 0;
         }
-        self.gap(pc + 1, 24)
+        let from = pc + 1;
+        let first = (from / 8) as usize;
+        if first + 4 < self.mask.len() {
+            // Four bytes of the mask hold the bits of all 24 places.
+            return zeros_before(window(&self.mask, first) >> (from % 8));
+        }
+        self.gap(from, 24)
     }
 
     // The nearest place before this one at which an instruction begins, at most so many before.
@@ -175,13 +209,13 @@ impl Program {
     pub fn is_start(&self, place: u64) -> bool
         ensures { result ≡ is_start self.now place }
     {
-        if !self.op_begins(place) {
+        if self.opcode(place).is_none() {
             return false;
         }
         place == 0 || self.follows_end(place)
     }
 
-    /// The target of the jump table's entry k; none past its end.
+    /// The target in the jump table's entry k; none past its end.
     pub fn jump_at(&self, k: u64) -> Option<u64>
         ensures { result ≡ slice_get self.now.jumps k }
     {

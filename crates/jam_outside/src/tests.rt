@@ -2,7 +2,7 @@
 use crate::{
     MemSink, MemVault, OutsideError, ReadRefusal, Sink, SureSink, SureVault, Vault, read_whole,
 };
-use std::alloc::{AllocError, Global};
+use std::alloc::Global;
 use std::collections::BTreeMap;
 use std::test::Fail;
 

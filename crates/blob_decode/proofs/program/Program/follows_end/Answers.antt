@@ -1,4 +1,4 @@
-use Rattle.std.proofs.Common.{◌≡◌, ap, sym, ◌∙◌, arith, get_or, ◌<◌, length, ℕ, Bool}
+use Rattle.std.proofs.Common.{◌≡◌, ap, sym, ◌∙◌, arith, ◌<◌, length, ℕ}
 use Rattle.std.proofs.lemmas.List.{get_or_read}
 use Rattle.blob_decode.specs.Opcodes.{is_terminator}
 use Rattle.blob_decode.specs.Program.{Program, code_byte}

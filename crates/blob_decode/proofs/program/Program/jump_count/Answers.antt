@@ -1,4 +1,4 @@
-use Rattle.std.proofs.Common.{ap, sym, ◌∙◌, length, ℕ}
+use Rattle.std.proofs.Common.{ap, sym, ◌∙◌, length}
 use Rattle.jam_codec.proofs.Numbers.{length-numbers}
 use Rattle.blob_decode.specs.Program.{Program}
 use Rattle.blob_decode.proofs.program.Program.jump_count.Goals as goal

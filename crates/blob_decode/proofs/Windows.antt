@@ -1,0 +1,79 @@
+-- The mask's bits in four of its bytes.
+use Rattle.std.proofs.Common.{◌≡◌, ℕ, zero, suc, ◌+◌, ◌-◌, ◌*◌, ◌/◌, ◌%◌, ◌^◌, ◌<◌, ◌≤◌, true, Bool, List, length, take, drop, get_or, arith, refl, ap, sym, ◌∙◌, inl, inr, length-drop}
+use Rattle.std.specs.Prelude.{◌==◌, bit_or}
+use Rattle.std.specs.Int.{w32, bit_at, trailing_zeros}
+use Rattle.std.proofs.Math.Nat.{div-div-eq-div-mul, pow-succ'}
+use Rattle.std.proofs.lemmas.Bool.{cases_lt}
+use Rattle.std.proofs.lemmas.List.{get_or-drop, get_or-take, length-take-le}
+use Rattle.std.proofs.lemmas.Nat.{shr-shr, or_lt, le_or_r}
+use Rattle.std.proofs.lemmas.Nat.Bits.{bit_at-trailing_zeros, bit_at_or, bit_at-pow_same, bit_at-pow_other}
+use Rattle.jam_codec.specs.Spelling.{little_number, binary_digits}
+use Rattle.jam_codec.specs.Laws.{AreBytes}
+use Rattle.jam_codec.proofs.Numbers.{AreBytes-take, AreBytes-drop}
+use Rattle.jam_codec.proofs.Bits.{binary_digits-of_bytes}
+use Rattle.blob_decode.specs.Program.{mask_bit, gap}
+use Rattle.blob_decode.specs.Kept.{program_of, Keeps, FirstSet}
+use Rattle.blob_decode.proofs.Starts.{gap-is}
+use Rattle.blob_decode.proofs.KeptLaws.{mask_bit-kept}
+
+-- the first set bit of the lowest 24, by the zeros below it once the bit above them is set
+pub FirstSet-trailing_zeros : (bits : ℕ) → bits < 2 ^ 32 → FirstSet bits (trailing_zeros w32 (bit_or bits (2 ^ 24)))
+FirstSet-trailing_zeros bits h =
+    let whole : ℕ = bit_or bits (2 ^ 24) in
+    let below : bit_or bits (2 ^ 24) < 2 ^ 32 = or_lt 32 bits (2 ^ 24) h (omega arith) in
+    let some : 0 < bit_or bits (2 ^ 24) = omega (arith, le_or_r bits (2 ^ 24)) in
+    let found : (trailing_zeros w32 whole < 32) × (bit_at whole (trailing_zeros w32 whole) ≡ 1) × ((i : ℕ) → i < trailing_zeros w32 whole → bit_at whole i ≡ 0) = bit_at-trailing_zeros w32 whole some below in
+    let low : (i : ℕ) → i < 24 → bit_at whole i ≡ bit_at bits i = λ i less. omega (arith, bit_at_or bits (2 ^ 24) i, bit_at-pow_other 24 i (omega arith)) in
+    let top : bit_at whole 24 ≡ 0 → ⊥ = λ none. omega (arith, bit_at_or bits (2 ^ 24) 24, bit_at-pow_same 24) in
+    let most : trailing_zeros w32 whole ≤ 24 = elim (cases_lt 24 (trailing_zeros w32 whole)) [
+      | inl past ↦ absurd (top (found.2 24 past))
+      | inr here ↦ here
+    ] in
+    record {
+      most = most;
+      zeros = λ j less. sym (low j (omega arith)) ∙ found.2 j less;
+      one = λ less. sym (low (trailing_zeros w32 whole) less) ∙ found.1;
+    }
+
+-- a digit of a number
+digit-at : (n i x : ℕ) (d : Bool) → i < n → get_or (binary_digits n x) i d ≡ (x / 2 ^ i % 2 == 1)
+unfolding binary_digits
+digit-at zero i x d h = absurd (omega arith)
+digit-at (suc n) zero x d h = let whole : x / 1 ≡ x = omega arith in rw whole refl
+digit-at (suc n) (suc i) x d h =
+    let less : i < n = omega arith in
+    let next : x / 2 / 2 ^ i ≡ x / 2 ^ suc i = div-div-eq-div-mul x 2 (2 ^ i) ∙ ap (λ (k : ℕ). x / k) (sym (pow-succ' 2 i)) in
+    rw (digit-at n i (x / 2) d less, next) refl
+
+module _ (count width : ℕ) (table code mask : List ℕ) (keeps : Keeps count width table code mask) where
+  -- a bit of four bytes of the mask
+  window-bit : (first i : ℕ) → first + 4 ≤ length mask → i < 32 → 8 * first + i < length code → (little_number (take 4 (drop first mask)) / 2 ^ i % 2 == 1) ≡ mask_bit (program_of count width table code mask) (8 * first + i)
+  window-bit first i long less within =
+      let four : List ℕ = take 4 (drop first mask) in
+      let size : length (take 4 (drop first mask)) ≡ 4 = length-take-le 4 (drop first mask) (omega (arith, length-drop first mask)) in
+      let bytes : AreBytes (take 4 (drop first mask)) = AreBytes-take 4 (drop first mask) (AreBytes-drop first mask keeps.bytes) in
+      let byte : get_or (take 4 (drop first mask)) (i / 8) 0 ≡ get_or mask ((8 * first + i) / 8) 0 =
+      get_or-take 4 (drop first mask) (i / 8) 0 (omega arith) ∙ get_or-drop first mask (i / 8) 0 ∙ ap (λ (k : ℕ). get_or mask k 0) (omega arith) in
+      let bit : i % 8 ≡ (8 * first + i) % 8 = omega arith in
+      sym (digit-at 32 i (little_number (take 4 (drop first mask))) true less)
+      ∙ binary_digits-of_bytes (take 4 (drop first mask)) 32 i true bytes (omega (arith, size)) less
+      ∙ ap (λ (b : ℕ). b / 2 ^ (i % 8) % 2 == 1) byte
+      ∙ ap (λ (k : ℕ). get_or mask ((8 * first + i) / 8) 0 / 2 ^ k % 2 == 1) bit
+      ∙ sym (mask_bit-kept count width table code mask (8 * first + i) keeps within)
+
+  -- where four bytes of the mask hold the bits of 24 places, the first set one tells the gap
+  pub gap-window : (from n : ℕ) → from / 8 + 4 < length mask → FirstSet (little_number (take 4 (drop (from / 8) mask)) / 2 ^ (from % 8)) n → gap (program_of count width table code mask) from 24 ≡ n
+  gap-window from n long set =
+      let number : ℕ = little_number (take 4 (drop (from / 8) mask)) in
+      let at : (j : ℕ) → j < 24 → (number / 2 ^ (from % 8) / 2 ^ j % 2 == 1) ≡ mask_bit (program_of count width table code mask) (from + j) = λ j less.
+      let place : 8 * (from / 8) + (from % 8 + j) ≡ from + j = omega arith in
+      ap (λ (k : ℕ). k % 2 == 1) (shr-shr number (from % 8) j)
+      ∙ window-bit (from / 8) (from % 8 + j) (omega arith) (omega arith) (omega (arith, keeps.bits))
+      ∙ ap (mask_bit (program_of count width table code mask)) place in
+      gap-is (program_of count width table code mask) from 24 n set.most
+      (λ j after before.
+      let place : from + (j - from) ≡ j = omega arith in
+      ap (mask_bit (program_of count width table code mask)) (sym place)
+      ∙ sym (at (j - from) (omega (arith, set.most)))
+      ∙ ap (λ (k : ℕ). k == 1) (set.zeros (j - from) (omega arith)))
+      (λ less. sym (at n less) ∙ ap (λ (k : ℕ). k == 1) (set.one less))
