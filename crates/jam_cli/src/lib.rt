@@ -15,3 +15,6 @@ mod words;
 pub use laws::history_laws;
 pub use status::Status;
 pub use top::jam;
+
+#[cfg(test)]
+mod tests;

@@ -1,0 +1,21 @@
+-- What is known of the real files and of standard output: which calls failed, and nothing of what they hold.
+use Rattle.std.specs.Prelude.{ℕ, List, [], None}
+use Rattle.jam_outside.specs.Causes.{VaultState, SinkState}
+
+-- for each kind of call how often it failed, and the name at which it last did
+pub record FileFaults : Type 0 where
+  pub read_faults : ℕ
+  pub failed : List ℕ
+  pub store_faults : ℕ
+  pub store_failed : List ℕ
+
+-- before the first call
+abbrev pub no_faults : FileFaults
+no_faults = record { read_faults = 0; failed = []; store_faults = 0; store_failed = [] }
+
+abbrev pub files_state : FileFaults → VaultState
+files_state f = record { files = None; read_faults = f.read_faults; failed = f.failed; store_faults = f.store_faults; store_failed = f.store_failed }
+
+-- of a sink that failed so often
+abbrev pub output_state : ℕ → SinkState
+output_state faults = record { taken = None; faults = faults }
