@@ -6,7 +6,7 @@ use Rattle.jam_outside.specs.Files.{Files, content}
 use Rattle.jam_outside.specs.Causes.{Rose}
 use Rattle.jam_cli.specs.declared.status.Status.{Status}
 use Rattle.jam_cli.specs.declared.status.Status.TheVariants.{Done, NoMemory, BadWords, ReadFault, TooLong, Refused, SinkFault}
-use Rattle.jam_cli.specs.Command.{Command, run, Asks, AsksNothing, Input, inputs, Values, ValueOf, SpellsValue}
+use Rattle.jam_cli.specs.Command.{Command, run, hash, Asks, AsksNothing, Input, inputs, Values, ValueOf, SpellsValue}
 use Rattle.jam_cli.specs.Ending.{limit, Call, WasRead, AllRead, SpellAll, FirstTooLong, SpellsNone, SpellsSome, FirstRefused, FirstNamed, Gives, PrintedNothing, PrintedAll, PrintedPrefix, KeepsFiles, StoredAll, CallEnds, DoneMeans, BadWordsMeans, BadWordsComes, ReadFaultMeans, ReadThrough, TooLongMeans, TooLongComes, RefusedMeans, RefusedComes, SinkFaultMeans, NoMemoryMeans, IsSilent, SilentMeans, OthersKeepFiles, IsServed, ServedIsDone}
 
 -- words ask for one command at most
@@ -17,6 +17,16 @@ one_command (run blob gas) (run name fuel) words p q =
     let digits : p.0 ≡ q.0 = cc in
     let numbers : gas ≡ fuel = decimal_injective gas fuel (omega (arith, p.2.0)) (omega (arith, q.2.0)) (sym p.2.1 ∙ digits ∙ q.2.1) in
     cc
+one_command (hash file) (hash name) words p q =
+    let same : codes "hash" ∷ (file ∷ []) ≡ codes "hash" ∷ (name ∷ []) = sym p.1 ∙ q.1 in
+    let names : file ≡ name = cc in
+    cc
+one_command (run blob gas) (hash name) words p q =
+    let same : codes "run" ∷ (blob ∷ (p.0 ∷ [])) ≡ codes "hash" ∷ (name ∷ []) = sym p.3 ∙ q.1 in
+    absurd (cc same)
+one_command (hash file) (run name fuel) words p q =
+    let same : codes "hash" ∷ (file ∷ []) ≡ codes "run" ∷ (name ∷ (q.0 ∷ [])) = sym p.1 ∙ q.3 in
+    absurd (cc same)
 
 -- where a fact holds of what is told, so does what follows from it
 pub where_told : {A : Type 0} (o : Option A) (P Q : A → Type 0) → ((x : A) → P x → Q x) → IfSome o P → IfSome o Q

@@ -10,12 +10,13 @@ use Rattle.jam_cli.specs.declared.status.Status.{Status}
 use Rattle.jam_cli.specs.declared.status.Status.TheVariants.{Done, NoMemory, ReadFault, TooLong, Refused, SinkFault}
 use Rattle.jam_cli.specs.declared.words.Command as parsed
 use Rattle.jam_cli.specs.declared.words.Command.TheVariants as line
-use Rattle.jam_cli.specs.Command.{Command, run, Kind, ValueOf, SpellsValue}
+use Rattle.jam_cli.specs.Command.{Command, run, hash, Kind, ValueOf, SpellsValue}
 use Rattle.jam_cli.specs.Ending.{limit}
 
 -- the command of the code
 abbrev pub asked : parsed.Command → Command
 asked (line.Run blob gas) = run blob.now gas
+asked (line.Hash file) = hash file.now
 
 abbrev pub status_of : {X : Type 0} → Result X Status → Status
 status_of (Ok x) = Done

@@ -40,3 +40,7 @@ last_exit_line (Some exit) = exit_line exit
 unfoldable pub block : Moment → List ℕ
 block m = last_exit_line m.exit ++ (number_line (codes "pc") m.state.pc ++ (number_line (codes "gas") m.gas
     ++ (register_lines 0 m.state.registers ++ output_line (output m))))
+
+-- a digest
+abbrev pub digest_line : List ℕ → List ℕ
+digest_line digest = encode_lower digest ++ (10 ∷ [])

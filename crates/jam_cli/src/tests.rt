@@ -143,11 +143,34 @@ fn sums_moves_and_jumps_give_what_the_opcodes_say(rt: HostRuntime) -> Result<(),
 }
 
 #[test]
+fn hash_prints_the_digests_of_the_worked_examples(rt: HostRuntime) -> Result<(), Fail> {
+    let alloc = rt.alloc();
+    let rows: [(&[u8], &str); 2] = [
+        (
+            b"",
+            "0e5751c026e543b2e8ab2eb06099daa1d1e5df47778f7787faab45cdf12fe3a8\n",
+        ),
+        (
+            b"abc",
+            "bddd813c634239723171ef3fee98579b94964e3bb1cb3e427262c8c068d52319\n",
+        ),
+    ];
+    for (bytes, line) in rows {
+        let mut vault = SureVault::new(alloc, one_file(alloc, bytes)?);
+        let mut sink = SureSink::new(alloc);
+        let words = words_of(alloc, &["hash", "blob"])?;
+        assert_eq!(rt; jam(alloc, &words, &mut vault, &mut sink), Status::Done);
+        assert!(rt; sink.bytes() == line.as_bytes(), "{line}");
+    }
+    Ok(())
+}
+
+#[test]
 fn other_words_and_other_blobs_are_refused(rt: HostRuntime) -> Result<(), Fail> {
     let alloc = rt.alloc();
     let refused = Status::Refused { word: 1, place: 0 };
     let run: &[&str] = &["run", "blob", "7"];
-    let rows: [(&[&str], &[u8], Status); 12] = [
+    let rows: [(&[&str], &[u8], Status); 14] = [
         (&[], &FIRST_RUN, Status::BadWords),
         (&["run", "blob"], &FIRST_RUN, Status::BadWords),
         (&["run", "blob", "7", "7"], &FIRST_RUN, Status::BadWords),
@@ -159,6 +182,8 @@ fn other_words_and_other_blobs_are_refused(rt: HostRuntime) -> Result<(), Fail> 
             &FIRST_RUN,
             Status::BadWords,
         ),
+        (&["hash"], &FIRST_RUN, Status::BadWords),
+        (&["hash", ""], &FIRST_RUN, Status::BadWords),
         (run, &FIRST_RUN[..14], refused),
         (run, &[0, 9, 0], refused),
         (run, b"\xff\xff\xff\xff\xff\xff\xff\xff\xff\x08\0", refused),

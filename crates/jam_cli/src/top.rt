@@ -1,14 +1,15 @@
 // The top call.
 ghost use Rattle.std.specs.Prelude.{◌≡◌};
-ghost use Rattle.jam_cli.specs.Command.{run, texts};
+ghost use Rattle.jam_cli.specs.Command.{run, hash, texts};
 ghost use Rattle.jam_cli.specs.Ending.{Ends, CallEnds, call, DoneMeans, BadWordsMeans, BadWordsComes, ReadFaultMeans, TooLongMeans, TooLongComes, RefusedMeans, RefusedComes, SinkFaultMeans, NoMemoryMeans, SilentMeans, OthersKeepFiles, ServedIsDone};
 ghost use Rattle.jam_cli.specs.Parts.{status_of, put_status};
 ghost use Rattle.jam_cli.specs.declared.status.Status.TheVariants.{NoMemory};
 
 use crate::input::{program_of, read_input};
 use crate::status::Status;
-use crate::transcript::outcome_of;
+use crate::transcript::{digest_text, outcome_of};
 use crate::words::{Command, command_of};
+use blake2b_core::digest;
 use jam_outside::{OutsideError, Sink, Vault};
 use std::alloc::{AllocError, Global};
 
@@ -49,6 +50,31 @@ fn run<V: Vault, S: Sink>(
     Ok(())
 }
 
+// `hash FILE`
+#[tactic(auto, using(std::proofs::lemmas::Result::err_from_is_err_and))]
+fn hash<V: Vault, S: Sink>(
+    alloc: Global,
+    file: &str,
+    vault: &mut V,
+    out: &mut S,
+) -> Result<(), Status>
+    ensures { Ends (status_of result) (hash file.now) (call (V.state vault.old) (V.state vault.new) (S.state out.old) (S.state out.new)) }
+{
+    let bytes = read_input(alloc, vault, file, 1)?;
+    let text = digest_text(alloc, &digest(&bytes))?;
+    out.put(text.as_bytes())?;
+    Ok(())
+}
+
+fn ended(outcome: Result<(), Status>) -> Status
+    ensures { result ≡ status_of outcome }
+{
+    match outcome {
+        Ok(()) => Status::Done,
+        Err(status) => status,
+    }
+}
+
 // Does what the words ask for.
 fn serve<V: Vault, S: Sink>(
     alloc: Global,
@@ -61,10 +87,8 @@ fn serve<V: Vault, S: Sink>(
     match command_of(alloc, words) {
         Err(_) => Status::NoMemory,
         Ok(None) => Status::BadWords,
-        Ok(Some(Command::Run { blob, gas })) => match run(alloc, blob, gas, vault, out) {
-            Ok(()) => Status::Done,
-            Err(status) => status,
-        },
+        Ok(Some(Command::Run { blob, gas })) => ended(run(alloc, blob, gas, vault, out)),
+        Ok(Some(Command::Hash { file })) => ended(hash(alloc, file, vault, out)),
     }
 }
 

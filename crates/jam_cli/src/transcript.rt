@@ -1,6 +1,6 @@
 // The lines that are printed.
 ghost use Rattle.std.specs.Prelude.{◌≡◌, ◌++◌, OnOk, IfOk, string_bytes, codes, Some};
-ghost use Rattle.jam_cli.specs.Transcript.{number_line, exit_line, register_lines, block};
+ghost use Rattle.jam_cli.specs.Transcript.{number_line, exit_line, register_lines, block, digest_line};
 ghost use Rattle.jam_cli.specs.History.{answer, raw};
 ghost use Rattle.jam_cli.specs.Machine.{moment};
 
@@ -57,4 +57,13 @@ pub fn outcome_of(alloc: Global, program: Program, gas: u64) -> Result<String, A
     let mut machine = Machine::raw(program, 0, gas);
     let exit = machine.run();
     block_of(alloc, &machine, exit)
+}
+
+/// The line of a digest.
+pub fn digest_text(alloc: Global, digest: &[u8; 32]) -> Result<String, AllocError>
+    ensures { IfOk result (λ text. string_bytes text ≡ digest_line digest.now) }
+{
+    let mut text = hex::encode(alloc, digest)?;
+    text.push('\n')?;
+    Ok(text)
 }

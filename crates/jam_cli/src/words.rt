@@ -1,6 +1,6 @@
 // The words of a command line.
 ghost use Rattle.std.specs.Prelude.{◌≡◌, ◌<◌, ◌^◌, ℕ, IfOk, MatchOption, IsTrue, ◌↔◌};
-ghost use Rattle.jam_cli.specs.Command.{Asks, AsksNothing, IsNumber, texts};
+ghost use Rattle.jam_cli.specs.Command.{Asks, AsksNothing, IsName, IsNumber, texts, run, hash};
 ghost use Rattle.jam_cli.specs.Parts.{asked};
 
 use std::alloc::{AllocError, Global};
@@ -10,6 +10,8 @@ use std::alloc::{AllocError, Global};
 pub enum Command<'a> {
     /// `run BLOB GAS`: runs a program blob with so much gas.
     Run { blob: &'a str, gas: u64 },
+    /// `hash FILE`: the digest of the bytes of a file.
+    Hash { file: &'a str },
 }
 
 fn is_text(word: &str, text: &str) -> bool
@@ -36,21 +38,38 @@ fn number_of(alloc: Global, word: &str) -> Result<Option<u64>, AllocError>
     }
 }
 
+fn run_of<'a>(alloc: Global, blob: &'a str, gas: &str) -> Result<Option<Command<'a>>, AllocError>
+    ensures { IfOk result (λ found. MatchOption found
+        ((n : ℕ) → IsName blob.now → IsNumber n gas.now → ⊥)
+        (λ command. (n : ℕ) × (asked command ≡ run blob.now n) × IsName blob.now × IsNumber n gas.now)) }
+{
+    if blob.is_empty() {
+        return Ok(None);
+    }
+    match number_of(alloc, gas)? {
+        None => Ok(None),
+        Some(gas) => Ok(Some(Command::Run { blob, gas })),
+    }
+}
+
+fn hash_of(file: &str) -> Option<Command<'_>>
+    ensures { MatchOption result (IsName file.now → ⊥) (λ command. (asked command ≡ hash file.now) × IsName file.now) }
+{
+    if file.is_empty() {
+        return None;
+    }
+    Some(Command::Hash { file })
+}
+
 /// The command that has these words, if there is one.
 pub fn command_of(alloc: Global, words: &[String]) -> Result<Option<Command<'_>>, AllocError>
     ensures { IfOk result (λ found. MatchOption found (AsksNothing (texts words.now)) (λ command. Asks (asked command) (texts words.now))) }
 {
-    let [command, blob, gas] = words else {
-        return Ok(None);
-    };
-    if blob.is_empty() || !is_text(command.as_str(), "run") {
-        return Ok(None);
-    }
-    match number_of(alloc, gas.as_str())? {
-        None => Ok(None),
-        Some(gas) => Ok(Some(Command::Run {
-            blob: blob.as_str(),
-            gas,
-        })),
+    match words {
+        [command, blob, gas] if is_text(command.as_str(), "run") => {
+            run_of(alloc, blob.as_str(), gas.as_str())
+        }
+        [command, file] if is_text(command.as_str(), "hash") => Ok(hash_of(file.as_str())),
+        _ => Ok(None),
     }
 }

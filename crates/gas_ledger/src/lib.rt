@@ -1,0 +1,9 @@
+//! Gas, which is neither made nor lost.
+#![tactic(auto)]
+
+mod ledger;
+
+pub use ledger::Ledger;
+
+#[cfg(test)]
+mod tests;

@@ -1,0 +1,9 @@
+//! The history of a preimage: at most three time slots.
+#![tactic(auto)]
+
+mod history;
+
+pub use history::{EXPUNGE_PERIOD, Forgot, History, Huh, forget, solicit};
+
+#[cfg(test)]
+mod tests;
