@@ -1,5 +1,5 @@
 -- Digests that are known, so that a wrong constant, step or padding in the definition does not check.
-use Rattle.std.proofs.Common.{◌≡◌, List, [], ◌∷◌, codes, refl, replicate}
+use Rattle.std.proofs.Common.{◌≡◌, [], ◌∷◌, codes, refl, replicate}
 use Rattle.blake2b_core.specs.Blake2b.{words, half_mix, mix, round, rounds, work_vector, compress, blocks, chained, final_chain, digest}
 
 pub digest_of_nothing : digest [] ≡ 14 ∷ 87 ∷ 81 ∷ 192 ∷ 38 ∷ 229 ∷ 67 ∷ 178 ∷ 232 ∷ 171 ∷ 46 ∷ 176 ∷ 96 ∷ 153 ∷ 218 ∷ 161 ∷ 209 ∷ 229 ∷ 223 ∷ 71 ∷ 119 ∷ 143 ∷ 119 ∷ 135 ∷ 250 ∷ 171 ∷ 69 ∷ 205 ∷ 241 ∷ 47 ∷ 227 ∷ 168 ∷ []

@@ -1,5 +1,5 @@
 -- The bytes that a hasher stands for, as further bytes come.
-use Rattle.std.proofs.Common.{◌≡◌, ℕ, ◌+◌, ◌-◌, ◌*◌, ◌/◌, ◌%◌, ◌<◌, ◌≤◌, Bool, true, false, List, [], ◌∷◌, ◌++◌, length, take, drop, refl, sym, ap, ◌∙◌, arith, length-append}
+use Rattle.std.proofs.Common.{◌≡◌, ℕ, ◌+◌, ◌*◌, ◌/◌, ◌%◌, ◌<◌, ◌≤◌, true, false, List, ◌++◌, length, take, drop, refl, sym, ap, ◌∙◌, arith, length-append}
 use Rattle.std.proofs.lemmas.List.{append_assoc, drop-append-le, drop_at, take-append-drop, take_all}
 use Rattle.blake2b_core.specs.Blake2b.{compress, blocks, filled, before_last, chained, final_chain, data_blocks}
 use Rattle.blake2b_core.specs.Hasher.{waiting, hashing, chain_after, StandsFor}

@@ -99,7 +99,15 @@ fn round(v: &mut [u64; 16], m: &[u64; 16], row: &[usize; 16])
     mix(v, 2, 6, 10, 14, scheduled(m, row, 4), scheduled(m, row, 5));
     mix(v, 3, 7, 11, 15, scheduled(m, row, 6), scheduled(m, row, 7));
     mix(v, 0, 5, 10, 15, scheduled(m, row, 8), scheduled(m, row, 9));
-    mix(v, 1, 6, 11, 12, scheduled(m, row, 10), scheduled(m, row, 11));
+    mix(
+        v,
+        1,
+        6,
+        11,
+        12,
+        scheduled(m, row, 10),
+        scheduled(m, row, 11),
+    );
     mix(v, 2, 7, 8, 13, scheduled(m, row, 12), scheduled(m, row, 13));
     mix(v, 3, 4, 9, 14, scheduled(m, row, 14), scheduled(m, row, 15));
 }
