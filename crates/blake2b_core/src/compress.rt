@@ -31,7 +31,7 @@ const SIGMA: [[usize; 16]; 10] = [
     [10, 2, 8, 4, 7, 6, 1, 5, 15, 11, 9, 14, 3, 12, 13, 0],
 ];
 
-// Half of the mixing function on the words at a, b, c and d, whose rotations are by `near` and `far` bits.
+// Half of the mixing function on the words at a, b, c and d, with its two rotations.
 #[inline(always)]
 fn half_mix(
     v: &mut [u64; 16],
