@@ -1,4 +1,5 @@
 pub mod Spelling
 pub mod Reading
 pub mod Format
+pub mod Lists
 pub mod Laws

@@ -1,6 +1,8 @@
 // A place in bytes, from which fields are read one after another.
 ghost use Rattle.std.specs.Prelude.{◌≡◌, ◌+◌, ◌*◌, ◌^◌, ◌<◌, ◌≤◌, List, ℕ, Bool, [], ◌++◌, length, IfOk, IfErr, OnErr, IsTrue, ◌↔◌};
 ghost use Rattle.jam_codec.specs.Reading.{Reading, Takes, Reads, natural_at, fixed_at, bytes_at, bits_at};
+ghost use Rattle.jam_codec.specs.Format.{any};
+ghost use Rattle.jam_codec.specs.Lists.{blob_where, HasNoBlob, option_tag};
 ghost use Rattle.jam_codec.specs.Spelling.{natural, little_endian, little_number, binary_digits, bytes_for, packed};
 
 use crate::natural::{number_of, split_natural};
@@ -144,5 +146,55 @@ impl<'a> Cursor<'a> {
         self.rest = rest;
         self.place += count;
         Ok(front)
+    }
+
+    // A second cursor at the same place, for fields that are read all or none.
+    fn ahead(&self) -> Cursor<'a>
+        ensures { result ≡ self.now }
+    {
+        Cursor {
+            place: self.place,
+            rest: self.rest,
+        }
+    }
+
+    /// The bytes of a blob: its length stands before them.
+    ///
+    /// # Errors
+    /// `Malformed` where no length is spelled, or, at the first byte after the length, where fewer bytes are left.
+    #[tactic(auto, using(std::proofs::lemmas::Result::err_from_is_err_and))]
+    pub fn blob(&mut self) -> Result<&'a [u8], Malformed>
+        ensures exact { Reads (λ e. e.place) (λ found. found.now) result self.new ((blob_where any).read self.old) }
+        ensures ok { IfOk result (λ found. Takes self.old (natural (length found.now) ++ found.now) self.new) }
+        ensures malformed { IfErr result (λ e. HasNoBlob self.old e.place) }
+        ensures none { IfErr result (λ e. (x tail : List ℕ) → length x < 2 ^ 64 → self.old.rest ≡ (natural (length x) ++ x) ++ tail → ⊥) }
+        ensures err { OnErr result (self.new ≡ self.old) }
+    {
+        let mut ahead = self.ahead();
+        let length = ahead.natural()?;
+        let found = ahead.bytes(length)?;
+        *self = ahead;
+        Ok(found)
+    }
+
+    /// Whether a value follows, as the tag before it says.
+    ///
+    /// # Errors
+    /// `Malformed` where no byte is left, or the byte is neither 0 nor 1.
+    #[tactic(auto, using(std::proofs::lemmas::Result::err_from_is_err_and))]
+    pub fn option_tag(&mut self) -> Result<bool, Malformed>
+        ensures exact { Reads (λ e. e.place) (λ present. present) result self.new (option_tag.read self.old) }
+        ensures ok { IfOk result (λ present. Takes self.old (option_tag.spell present) self.new) }
+        ensures malformed { IfErr result (λ e. e.place ≡ self.old.place) }
+        ensures none { IfErr result (λ e. (x : Bool) (tail : List ℕ) → self.old.rest ≡ option_tag.spell x ++ tail → ⊥) }
+        ensures err { OnErr result (self.new ≡ self.old) }
+    {
+        let mut ahead = self.ahead();
+        let tag = ahead.fixed(1)?;
+        if tag > 1 {
+            return Err(Malformed { place: self.place });
+        }
+        *self = ahead;
+        Ok(tag == 1)
     }
 }

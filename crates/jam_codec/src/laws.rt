@@ -1,6 +1,7 @@
 // What holds of the formats of fields, whatever test their values have to pass.
-ghost use Rattle.std.specs.Prelude.{ℕ, Bool, List};
+ghost use Rattle.std.specs.Prelude.{ℕ, Bool, List, Option};
 ghost use Rattle.jam_codec.specs.Format.{natural_where, fixed_where, bytes_where, bits_where, numbers_of};
+ghost use Rattle.jam_codec.specs.Lists.{blob_where, hash_and_number_after, option_tag};
 ghost use Rattle.jam_codec.specs.Laws.{IsFormat, HasOneSpelling, HasNoPrefix};
 
 /// Each field keeps the laws of a format:
@@ -24,4 +25,11 @@ pub fn one_spelling_laws()
     ensures bytes { (n : ℕ) (test : List ℕ → Bool) → HasOneSpelling (bytes_where n test) × HasNoPrefix (bytes_where n test) }
     ensures bits { (n : ℕ) (test : List Bool → Bool) → HasOneSpelling (bits_where n test) × HasNoPrefix (bits_where n test) }
     ensures numbers { (width n : ℕ) → HasOneSpelling (numbers_of width n) × HasNoPrefix (numbers_of width n) }
+{}
+
+/// The same of what is put together from two fields or from one byte: a blob, a key of a hash and a number, a tag.
+pub fn joined_laws()
+    ensures blob { (test : List ℕ → Bool) → IsFormat (blob_where test) }
+    ensures hash_and_number { (last : Option (List ℕ × ℕ)) → IsFormat (hash_and_number_after last) }
+    ensures tag { IsFormat option_tag }
 {}

@@ -38,8 +38,8 @@ fn joined(first: u8, length: usize, low: u64) -> u64
     (high << (8 * length)) + low
 }
 
-// The least natural that so many bytes follow.
-fn least_natural(length: usize) -> u64
+/// The least natural that so many bytes follow.
+pub fn least_natural(length: usize) -> u64
     requires { length ≤ 8 }
     ensures { result ≡ least_with length }
 {

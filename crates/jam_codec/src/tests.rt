@@ -1,5 +1,6 @@
 //! Spellings byte by byte, as a reader would write them out.
 use super::*;
+use std::test::Fail;
 
 #[test]
 fn naturals_are_read_back(rt: HostRuntime) {
@@ -73,4 +74,65 @@ fn a_refused_field_stays_unread(rt: HostRuntime) {
         (cursor.place(), cursor.remaining(), cursor.at_end()),
         (4, 2, false)
     );
+}
+
+#[test]
+fn naturals_are_added_as_they_are_read(rt: HostRuntime) -> Result<(), Fail> {
+    let table: [(u64, &[u8]); 7] = [
+        (0, &[0x00]),
+        (127, &[0x7f]),
+        (128, &[0x80, 0x80]),
+        (16383, &[0xbf, 0xff]),
+        (16384, &[0xc0, 0x00, 0x40]),
+        (
+            0xff_ffff_ffff_ffff,
+            &[0xfe, 0xff, 0xff, 0xff, 0xff, 0xff, 0xff, 0xff],
+        ),
+        (
+            0x100_0000_0000_0000,
+            &[0xff, 0x00, 0x00, 0x00, 0x00, 0x00, 0x00, 0x00, 0x01],
+        ),
+    ];
+    for (number, bytes) in table {
+        let mut out = Vec::new(rt.alloc());
+        out.push(0xaa)?;
+        push_natural(&mut out, number)?;
+        assert!(rt; out[0] == 0xaa);
+        assert!(rt; &out[1..] == bytes, "of {number}");
+    }
+    Ok(())
+}
+
+#[test]
+fn fields_are_added_one_after_another(rt: HostRuntime) -> Result<(), Fail> {
+    let mut out = Vec::new(rt.alloc());
+    push_bits(&mut out, &[true, false, false, true])?;
+    push_blob(&mut out, &[0x6b])?;
+    push_fixed(&mut out, 3, 258)?;
+    push_fixed(&mut out, 0, 0)?;
+    push_bits(&mut out, &[])?;
+    push_bits(
+        &mut out,
+        &[true, true, true, true, true, true, true, true, true],
+    )?;
+    assert!(rt; out.as_slice() == [0x09, 0x01, 0x6b, 0x02, 0x01, 0x00, 0xff, 0x01].as_slice());
+    Ok(())
+}
+
+#[test]
+fn blobs_and_tags_are_read_or_stay_unread(rt: HostRuntime) {
+    let mut cursor = Cursor::new(&[0x01, 0x6b, 0x00, 0x01, 0x02, 0x6b]);
+    assert!(rt; cursor.blob() == Ok(&[0x6b]));
+    assert_eq!(rt; cursor.option_tag(), Ok(false));
+    assert_eq!(rt; cursor.option_tag(), Ok(true));
+    assert_eq!(rt; cursor.option_tag(), Err(Malformed { place: 4 }));
+    assert!(rt;
+        cursor.blob() == Err(Malformed { place: 5 }),
+        "a byte is missing"
+    );
+    assert_eq!(rt; cursor.place(), 4);
+    let mut short = Cursor::new(&[0xff]);
+    assert!(rt; short.blob() == Err(Malformed { place: 0 }), "no length");
+    let mut empty = Cursor::new(&[]);
+    assert_eq!(rt; empty.option_tag(), Err(Malformed { place: 0 }));
 }
