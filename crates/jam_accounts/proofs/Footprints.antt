@@ -1,0 +1,77 @@
+-- Items by the lengths of the maps, and items against octets.
+use Rattle.std.proofs.Common.{◌≡◌, ℕ, suc, ◌+◌, ◌*◌, ◌≤◌, ◌<◌, ◌^◌, List, [], ◌∷◌, length, refl, ap, sym, ◌∙◌, subst, arith, Bool, true, false, Some, None, is_some, unwrap_or}
+use Rattle.std.specs.Prelude.{T, nat_lt, if◌then◌else◌}
+use Rattle.std.specs.List.{sum_by}
+use Rattle.std.specs.FinMap as fin
+use Rattle.std.proofs.lemmas.List.Sums.{sum_by-cons}
+use Rattle.std.specs.Cmp.Lexicographic.{nat_list_cmp_total}
+use Rattle.jam_accounts.proofs.Maps.{bytes_same, lookups_total, lookups_same}
+use Rattle.jam_accounts.proofs.Sums.{sum_by-remove-le}
+use Rattle.jam_accounts.specs.Accounts.{Account, Values, Histories}
+use Rattle.jam_accounts.specs.Footprint.{items_of, octets_of, value_octets, history_octets, storage_octets, lookups_octets, fitting, IsBounded}
+
+sum_by-constant : {A : Type 0} (n : ℕ) (xs : List A) → sum_by (λ (_ : A). n) xs ≡ n * length xs
+sum_by-constant n [] = omega arith
+sum_by-constant {A} n (x ∷ xs) = sum_by-cons (λ (_ : A). n) x xs ∙ ap (λ s. n + s) (sum_by-constant n xs) ∙ one_more n (length xs)
+  where
+    one_more : (n k : ℕ) → n + n * k ≡ n * suc k
+    one_more n k = grind arith
+
+at_most : (a b c d e f : ℕ) → e ≡ a + c → f ≡ b + d → a ≤ b → c ≤ d → e ≤ f
+at_most a b c d e f p q h i = omega (arith, p, q, h, i)
+
+sum_by-le-sum_by : {A : Type 0} (f g : A → ℕ) → ((x : A) → f x ≤ g x) → (xs : List A) → sum_by f xs ≤ sum_by g xs
+sum_by-le-sum_by f g h [] = omega arith
+sum_by-le-sum_by f g h (x ∷ xs) =
+    at_most (f x) (g x) (sum_by f xs) (sum_by g xs) (sum_by f (x ∷ xs)) (sum_by g (x ∷ xs)) (sum_by-cons f x xs) (sum_by-cons g x xs) (h x) (sum_by-le-sum_by f g h xs)
+
+module _ (storage : Values) (lookups : Histories) where
+  values_count : sum_by (λ (_ : List ℕ × List ℕ). 1) (fin.entries storage) ≡ fin.len storage
+  values_count = sum_by-constant 1 (fin.entries storage) ∙ one (length (fin.entries storage)) ∙ sym (fin.len-entries storage)
+    where
+      one : (n : ℕ) → 1 * n ≡ n
+      one n = omega arith
+
+  histories_count : sum_by (λ (_ : (List ℕ × ℕ) × List ℕ). 2) (fin.entries lookups) ≡ 2 * fin.len lookups
+  histories_count = sum_by-constant 2 (fin.entries lookups) ∙ ap (λ n. 2 * n) (sym (fin.len-entries lookups))
+
+  values_le : sum_by (λ (_ : List ℕ × List ℕ). 1) (fin.entries storage) ≤ storage_octets storage
+  values_le = sum_by-le-sum_by (λ _. 1) value_octets (λ e. omega arith) (fin.entries storage)
+
+  histories_le : sum_by (λ (_ : (List ℕ × ℕ) × List ℕ). 2) (fin.entries lookups) ≤ lookups_octets lookups
+  histories_le = sum_by-le-sum_by (λ _. 2) history_octets (λ e. omega arith) (fin.entries lookups)
+
+  pub counted : (n m : ℕ) → n ≡ fin.len storage → m ≡ fin.len lookups
+      → n + 2 * m ≡ sum_by (λ (_ : List ℕ × List ℕ). 1) (fin.entries storage) + sum_by (λ (_ : (List ℕ × ℕ) × List ℕ). 2) (fin.entries lookups)
+  counted n m p q = omega (arith, p, q, values_count, histories_count)
+
+  pub bounded : (n m x y : ℕ) → n ≡ fin.len storage → m ≡ fin.len lookups → x ≡ storage_octets storage → y ≡ lookups_octets lookups
+      → storage_octets storage + lookups_octets lookups < 2 ^ 100 → IsBounded (record { items = n + 2 * m; octets = x + y })
+  bounded n m x y p q r s h = record {
+    items = omega (arith, p, q, r, s, values_count, histories_count, values_le, histories_le);
+    octets = omega (arith, r, s, h);
+  }
+
+pub items_counted : (account : Account) → items_of account ≡ fin.len account.storage + 2 * fin.len account.lookups
+items_counted account = sym (counted account.storage account.lookups (fin.len account.storage) (fin.len account.lookups) refl refl)
+
+pub items_below : (account : Account) → items_of account ≤ octets_of account
+items_below account = omega (arith, values_le account.storage account.lookups, histories_le account.storage account.lookups)
+
+-- what takes up less still fits
+pub storage_less : (m n : Values) (key : List ℕ) (rest : ℕ) → n ≡ fin.remove m key → storage_octets m + rest < 2 ^ 100 → storage_octets n + rest < 2 ^ 100
+storage_less m n key rest is h =
+    let le : storage_octets n ≤ storage_octets m = subst (λ (x : Values). storage_octets x ≤ storage_octets m) (sym is) (sum_by-remove-le nat_list_cmp_total bytes_same value_octets m key) in
+    omega (arith, le, h)
+
+pub lookups_less : (m n : Histories) (key : List ℕ × ℕ) (rest : ℕ) → n ≡ fin.remove m key → rest + lookups_octets m < 2 ^ 100 → rest + lookups_octets n < 2 ^ 100
+lookups_less m n key rest is h =
+    let le : lookups_octets n ≤ lookups_octets m = subst (λ (x : Histories). lookups_octets x ≤ lookups_octets m) (sym is) (sum_by-remove-le lookups_total lookups_same history_octets m key) in
+    omega (arith, le, h)
+
+fitted_as : (b : Bool) (n x : ℕ) → (if b then Some n else None) ≡ Some x → x ≡ n
+fitted_as true n x e = ap (λ o. unwrap_or o x) (sym e)
+fitted_as false n x e = absurd (subst T (sym (ap is_some e)) tt)
+
+pub fitted : (n x : ℕ) → fitting n ≡ Some x → x ≡ n
+fitted n x e = fitted_as (nat_lt n (2 ^ 100)) n x e

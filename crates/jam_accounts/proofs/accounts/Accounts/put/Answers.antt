@@ -1,0 +1,13 @@
+use Rattle.std.proofs.Common.{ap, ◌∙◌, ℕ}
+use Rattle.std.specs.Ordering.{nat_cmp}
+use Rattle.std.specs.FinMap as fin
+use Rattle.std.specs.Cmp.{nat_cmp_total}
+use Rattle.std.specs.FinMap.{nat_cmp-IsAntisymmetric}
+use Rattle.jam_accounts.specs.Accounts.{Account}
+use Rattle.jam_accounts.proofs.Maps.{inserted}
+use Rattle.jam_accounts.proofs.accounts.Accounts.put.Goals as goal
+
+pub returns-clause-ok : goal.returns-clause-ok
+returns-clause-ok c =
+    inserted nat_cmp (λ (k : ℕ). k) (λ (v : Account). v) nat_cmp_total nat_cmp-IsAntisymmetric c.self.inside.map c.insert.new.self c.args.id c.args.account c.in_ok-insert.ensures.entries
+    ∙ ap (λ m. fin.insert m c.args.id c.args.account) c.self.view_is

@@ -1,0 +1,18 @@
+use Rattle.std.proofs.Common.{◌≡◌, ap, sym, subst, ◌∙◌, Vec, ℕ, List, Global}
+use Rattle.std.specs.FinMap as fin
+use Rattle.std.specs.Cmp.Lexicographic.{nat_list_cmp_total}
+use Rattle.blake2b_core.specs.Blake2b.{digest}
+use Rattle.jam_accounts.specs.Accounts.{StandUnderDigests}
+use Rattle.jam_accounts.specs.Accounts.{bytes_cmp}
+use Rattle.jam_accounts.proofs.Maps.{inserted, of_inserted, bytes_same}
+use Rattle.jam_accounts.proofs.preimages.Preimages.put_under.Goals as goal
+
+pub invariant_of-self-2 : goal.invariant_of-self-2
+invariant_of-self-2 c =
+    subst StandUnderDigests (sym (inserted bytes_cmp (λ (k : List ℕ). k) (λ (v : Vec ℕ Global). v.items) nat_list_cmp_total bytes_same c.self.inside.map c.insert.new.self c.args.hash c.args.bytes c.in_ok-insert.ensures.entries))
+    (of_inserted (λ (hash bytes : List ℕ). hash ≡ digest bytes) nat_list_cmp_total bytes_same _ c.args.hash c.args.bytes.items c.self.invariant c.requires)
+
+pub returns-clause-ok : goal.returns-clause-ok
+returns-clause-ok c =
+    inserted bytes_cmp (λ (k : List ℕ). k) (λ (v : Vec ℕ Global). v.items) nat_list_cmp_total bytes_same c.self.inside.map c.insert.new.self c.args.hash c.args.bytes c.in_ok-insert.ensures.entries
+    ∙ ap (λ m. fin.insert m c.args.hash c.args.bytes.items) c.self.view_is

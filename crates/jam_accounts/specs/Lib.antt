@@ -1,0 +1,4 @@
+pub mod Accounts
+pub mod Footprint
+pub mod Codes
+pub mod Seen
