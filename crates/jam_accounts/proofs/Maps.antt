@@ -178,8 +178,8 @@ put_twice false v other = refl
 -- what is taken out and put back is as if it were put in its place
 pub inserted_back : {K X : Type 0} {R : K → K → Ordering} → IsTotalOrder R → IsAntisymmetric R → (m : fin.FinMap R X) (k : K) (v : X) → fin.insert (fin.remove m k) k v ≡ fin.insert m k v
 inserted_back {R = R} o same m k v = fin.same_map o same (fin.insert (fin.remove m k) k v) (fin.insert m k v) (λ q.
-  fin.get-insert o (fin.remove m k) k v q ∙ ap (cond (eq_by_cmp R q k) (Some v)) (fin.get-remove o m k q)
-  ∙ put_twice (eq_by_cmp R q k) (Some v) (fin.get m q) ∙ sym (fin.get-insert o m k v q))
+    fin.get-insert o (fin.remove m k) k v q ∙ ap (cond (eq_by_cmp R q k) (Some v)) (fin.get-remove o m k q)
+    ∙ put_twice (eq_by_cmp R q k) (Some v) (fin.get m q) ∙ sym (fin.get-insert o m k v q))
 
 pub bytes_same : IsAntisymmetric (slice_cmp nat_cmp)
 bytes_same = slice_cmp-IsAntisymmetric nat_cmp-IsAntisymmetric
