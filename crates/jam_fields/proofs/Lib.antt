@@ -1,0 +1,4 @@
+pub mod Items
+pub mod Files
+pub mod Sorted
+pub mod Sizes

@@ -1,0 +1,6 @@
+-- Items that stand one after another.
+use Rattle.std.specs.Prelude.{◌-◌, List, length, Option, slice_get}
+
+-- the last item
+unfoldable pub last_of : {A : Type 0} → List A → Option A
+last_of xs = slice_get xs (length xs - 1)

@@ -1,0 +1,20 @@
+//! Fields of files: readers and writers of values, of lists and of maps, by their formats.
+#![tactic(auto)]
+
+mod blob;
+mod field;
+mod file;
+mod list;
+mod number;
+mod option;
+mod row;
+
+pub use blob::Blob;
+pub use field::Field;
+pub use file::{read_file, write_file};
+pub use list::{read_list, write_list};
+pub use number::read_natural;
+pub use row::{Row, read_rows, write_rows};
+
+#[cfg(test)]
+mod tests;
