@@ -84,7 +84,7 @@ module _ {A K V : Type 0} (R : K → K → Ordering) (total : IsTotalOrder R) (e
   above_last l (x ∷ xs) h =
       let rest : T (below_all R (entry x).0 (map entry xs)) × T (is_sorted R (map entry xs)) = above_last x xs h.1 in (
         all_of (is_lt (R (entry l).0 (entry x).0)) (below_all R (entry l).0 (map entry xs)) (of_less (R (entry l).0 (entry x).0) h.0)
-        (lower (entry l).0 (entry x).0 (map entry xs) h.0 rest.0),
+            (lower (entry l).0 (entry x).0 (map entry xs) h.0 rest.0),
         all_of (below_all R (entry x).0 (map entry xs)) (is_sorted R (map entry xs)) rest.0 rest.1,
       )
 
