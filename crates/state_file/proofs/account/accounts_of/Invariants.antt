@@ -1,0 +1,6 @@
+use Rattle.std.proofs.Common.{◌≡◌, ◌++◌}
+use Rattle.std.specs.FinMap as fin
+use Rattle.state_file.proofs.account.accounts_of.Given as goal
+
+abbrev pub invariant-loop-id : goal.invariant-loop-id
+invariant-loop-id l = fin.entries l.accounts ++ l.id-iterator.rest.items ≡ l.fn.entries.items

@@ -1,0 +1,2 @@
+pub mod StateFile
+pub mod StateLaws
