@@ -45,6 +45,27 @@ fn account_of(alloc: Global, balance: u64) -> Result<Account, Fail> {
     Ok(Account::new([7; 32], balance, 10, 20, storage, preimages, lookups))
 }
 
+// How many bytes each field of an account takes: the id, the code's hash, three numbers; the values, whose keys are of
+// one and two bytes; the preimages, [9, 9] before [3] by their digests; the lookups, of two slots each.
+const ACCOUNT: [u64; 30] = [
+    4, 32, 8, 8, 8, 1, 1, 1, 1, 0, 1, 2, 1, 1, 1, 1, 2, 1, 1, 1, 32, 4, 1, 4, 4, 32, 4, 1, 4, 4,
+];
+
+// Of a file of two accounts cut to a length: where the last field ends that is whole.
+fn whole_fields(length: u64) -> u64 {
+    let mut place = 0u64;
+    let head = [1, 4, 32, 1];
+    let fields = [&head[..], &ACCOUNT, &ACCOUNT];
+    for field in fields.iter().flat_map(|part| part.iter()) {
+        let end = place.saturating_add(*field);
+        if end > length {
+            return place;
+        }
+        place = end;
+    }
+    place
+}
+
 #[test]
 fn two_accounts(rt: HostRuntime) -> Result<(), Fail> {
     let mut accounts = Accounts::new(rt.alloc());
@@ -57,10 +78,10 @@ fn two_accounts(rt: HostRuntime) -> Result<(), Fail> {
     assert!(rt; again.as_slice() == bytes.as_slice());
     for length in 0..bytes.len() {
         let cut = read_state(rt.alloc(), &bytes[..length]);
-        assert!(rt;
-            matches!(cut, Err(FileRefusal::Malformed { .. })),
-            "of {length} bytes"
-        );
+        let Err(FileRefusal::Malformed { place }) = cut else {
+            return Err(Fail::from("a prefix was read"));
+        };
+        assert_eq!(rt; place, whole_fields(length as u64), "of {length} bytes");
     }
     Ok(())
 }
