@@ -1,14 +1,14 @@
 -- Items by the lengths of the maps, and items against octets.
-use Rattle.std.proofs.Common.{◌≡◌, ℕ, suc, ◌+◌, ◌*◌, ◌≤◌, ◌<◌, ◌^◌, List, [], ◌∷◌, length, refl, ap, sym, ◌∙◌, subst, arith, Bool, true, false, Some, None, is_some, unwrap_or}
+use Rattle.std.proofs.Common.{◌≡◌, ℕ, suc, ◌+◌, ◌*◌, ◌≤◌, ◌<◌, ◌^◌, List, [], ◌∷◌, length, refl, ap, sym, ◌∙◌, subst, arith, Bool, true, false, Some, None, Option, option_map, is_some, unwrap_or}
 use Rattle.std.specs.Prelude.{T, nat_lt, if◌then◌else◌}
 use Rattle.std.specs.List.{sum_by}
 use Rattle.std.specs.FinMap as fin
 use Rattle.std.proofs.lemmas.List.Sums.{sum_by-cons}
 use Rattle.std.specs.Cmp.Lexicographic.{nat_list_cmp_total}
 use Rattle.jam_accounts.proofs.Maps.{bytes_same, lookups_total, lookups_same}
-use Rattle.jam_accounts.proofs.Sums.{sum_by-remove-le}
+use Rattle.jam_accounts.proofs.Sums.{sum_by-insert, sum_by-remove-le}
 use Rattle.jam_accounts.specs.Accounts.{Account, Values, Histories}
-use Rattle.jam_accounts.specs.Footprint.{items_of, octets_of, value_octets, history_octets, storage_octets, lookups_octets, fitting, IsBounded}
+use Rattle.jam_accounts.specs.Footprint.{items_of, octets_of, value_octets, history_octets, storage_octets, lookups_octets, fitting, weight_at, IsBounded}
 
 sum_by-constant : {A : Type 0} (n : ℕ) (xs : List A) → sum_by (λ (_ : A). n) xs ≡ n * length xs
 sum_by-constant n [] = omega arith
@@ -75,3 +75,14 @@ fitted_as false n x e = absurd (subst T (sym (ap is_some e)) tt)
 
 pub fitted : (n x : ℕ) → fitting n ≡ Some x → x ≡ n
 fitted n x e = fitted_as (nat_lt n (2 ^ 100)) n x e
+
+weighs_there : (found : Option (List ℕ)) (history : List ℕ) (n : ℕ) → found ≡ Some history → unwrap_or (option_map (λ (value : List ℕ). n) found) 0 ≡ n
+weighs_there None history n e = absurd (subst T (sym (ap is_some e)) tt)
+weighs_there (Some other) history n e = refl
+
+-- a history in place of one that is there takes up as much
+pub lookups_replaced : (m n : Histories) (key : List ℕ × ℕ) (old new : List ℕ) → fin.get m key ≡ Some old → n ≡ fin.insert m key new → lookups_octets n ≡ lookups_octets m
+lookups_replaced m n key old new there is =
+    let sums : lookups_octets (fin.insert m key new) + weight_at history_octets m key ≡ lookups_octets m + (81 + key.1) = sum_by-insert lookups_total lookups_same history_octets m key new in
+    let weight : weight_at history_octets m key ≡ 81 + key.1 = weighs_there (fin.get m key) old (81 + key.1) there in
+    ap lookups_octets is ∙ omega (arith, sums, weight)

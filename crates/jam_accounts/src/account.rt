@@ -1,14 +1,15 @@
 // The account of a service.
-ghost use Rattle.std.specs.Prelude.{◌≡◌, ◌^◌, ◌<◌, ◌+◌, IfOk, OnOk, OnErr, option_map, nat_lt};
+ghost use Rattle.std.specs.Prelude.{◌≡◌, ◌^◌, ◌<◌, ◌+◌, IfOk, OnOk, OnErr, option_map, nat_lt, is_some, unwrap_or};
 ghost use Rattle.std.specs.FinMap as fin;
 ghost use Rattle.blake2b_core.specs.Blake2b.{digest};
 ghost use Rattle.jam_accounts.specs.Accounts.{preimage_at};
+ghost use Rattle.jam_accounts.specs.Receipt.{received};
 ghost use Rattle.jam_accounts.specs.Footprint.{footprint_of, storage_octets, lookups_octets, IsBounded};
 
 use crate::footprint::OCTETS_LIMIT;
 use crate::{Footprint, Lookups, Preimages, Storage};
 use preimage_store::History;
-use std::alloc::AllocError;
+use std::alloc::{AllocError, Global};
 use std::marker::Model;
 
 /// The account of a service: its code's hash, its balance, the least gas of its entries, and what
@@ -179,6 +180,31 @@ impl Account {
         ensures after { self.new ≡ record self.old { lookups = fin.remove self.old.lookups (hash.now, length) } }
     {
         self.lookups.remove(hash, length)
+    }
+}
+
+impl Account {
+    /// Stores a preimage that is delivered at a slot where its history is the empty one, and gives
+    /// it that slot as its history; else passes it over. Answers whether it was stored.
+    ///
+    /// # Errors
+    /// `AllocError` for want of memory; the account is then as before.
+    pub fn receive(&mut self, alloc: Global, bytes: &[u8], slot: u32) -> Result<bool, AllocError>
+        ensures stored { IfOk result (λ stored. stored ≡ is_some (received slot bytes.now self.old)) }
+        ensures after { OnOk result (self.new ≡ unwrap_or (received slot bytes.now self.old) self.old) }
+        ensures err { OnErr result (self.new ≡ self.old) }
+    {
+        let hash = blake2b_core::digest(bytes);
+        let Some(history) = self.lookups.find(&hash, bytes.len()) else {
+            return Ok(false);
+        };
+        let Some(given) = history.deliver(slot) else {
+            return Ok(false);
+        };
+        let content = Vec::from_slice(alloc, bytes)?;
+        self.preimages.put_under(hash, content)?;
+        self.lookups.replace(&hash, bytes.len() as u32, given);
+        Ok(true)
     }
 }
 

@@ -1,5 +1,5 @@
 // Histories of the preimages that a service asked for.
-ghost use Rattle.std.specs.Prelude.{◌≡◌, ◌^◌, ◌<◌, OnOk, OnErr, IfOk, length};
+ghost use Rattle.std.specs.Prelude.{◌≡◌, ◌^◌, ◌<◌, OnOk, OnErr, OnSome, IsSome, IfOk, length};
 ghost use Rattle.std.specs.FinMap as fin;
 ghost use Rattle.std.specs.Iterator.{at_most};
 ghost use Rattle.std.specs.Map.Iter.{TakesFirst};
@@ -59,7 +59,8 @@ impl Lookups {
 
     /// The same for a length that may be too great for a history: there is none then.
     pub fn find(&self, hash: &[u8; 32], length: usize) -> Option<History>
-        ensures { result ≡ fin.get self.now (hash.now, length) }
+        ensures value { result ≡ fin.get self.now (hash.now, length) }
+        ensures short { OnSome result (length < 2 ^ 32) }
     {
         let _map = &self.map;
         if length > u32::MAX as usize {
@@ -78,6 +79,17 @@ impl Lookups {
     {
         self.map.insert((*hash, length), history)?;
         Ok(())
+    }
+
+    /// Puts a history in place of the one that is there, which takes no memory.
+    pub fn replace(&mut self, hash: &[u8; 32], length: u32, history: History)
+        requires { IsSome (fin.get self.old (hash.now, length)) }
+        ensures { self.new ≡ fin.insert self.old (hash.now, length) history }
+    {
+        match self.map.insert((*hash, length), history) {
+            Ok(_) => {}
+            Err(_) => unreachable!(),
+        }
     }
 
     /// Takes out the history of a hash with a length, if there is one.

@@ -126,3 +126,30 @@ fn entries_come_in_order(rt: HostRuntime) -> Result<(), Fail> {
     assert_eq!(rt; lengths.as_slice(), [3, 9, 1, 0].as_slice());
     Ok(())
 }
+
+#[test]
+fn a_preimage_is_received_where_it_is_awaited(rt: HostRuntime) -> Result<(), Fail> {
+    let alloc = rt.alloc();
+    let mut lookups = Lookups::new(alloc);
+    let awaited = blake2b_core::digest(b"xyz");
+    put_slots(&mut lookups, &awaited, 3, &[])?;
+    put_slots(&mut lookups, &blake2b_core::digest(b"uvw"), 3, &[5])?;
+    put_slots(&mut lookups, &blake2b_core::digest(b"rst"), 4, &[])?;
+    let mut account = account_of(alloc, &Storage::new(alloc), &lookups)?;
+    let rows: [(&[u8], bool, usize); 5] = [
+        (b"uvw", false, 2),
+        (b"rst", false, 2),
+        (b"xyz", true, 3),
+        (b"xyz", false, 3),
+        (b"", false, 3),
+    ];
+    for (bytes, stored, kept) in rows {
+        assert_eq!(rt; account.receive(alloc, bytes, 9)?, stored);
+        assert_eq!(rt; account.preimages.len(), kept);
+    }
+    let history = account.lookups.get(&awaited, 3).ok_or("a history")?;
+    assert_eq!(rt; history.slots(), [9].as_slice());
+    let bytes = account.preimages.get(&awaited).ok_or("a preimage")?;
+    assert_eq!(rt; bytes, b"xyz".as_slice());
+    Ok(())
+}

@@ -1,0 +1,2 @@
+pub mod NoReports
+pub mod OneDelivery
