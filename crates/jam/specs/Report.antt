@@ -1,7 +1,7 @@
 -- How the program reports the end of a call: its exit status, and a line on standard error.
 use Rattle.std.specs.Prelude.{ℕ, List, [], ◌++◌, codes, decimal}
 use Rattle.jam_cli.specs.declared.status.Status.{Status}
-use Rattle.jam_cli.specs.declared.status.Status.TheVariants.{Done, NoMemory, BadWords, ReadFault, TooLong, Refused, SinkFault}
+use Rattle.jam_cli.specs.declared.status.Status.TheVariants.{Done, NoMemory, BadWords, ReadFault, TooLong, Refused, SinkFault, StoreFault}
 
 abbrev pub exit_code : Status → ℕ
 exit_code Done = 0
@@ -11,6 +11,7 @@ exit_code (ReadFault word) = 3
 exit_code (TooLong word) = 4
 exit_code (Refused word place) = 5
 exit_code SinkFault = 7
+exit_code StoreFault = 8
 
 -- the line without its line feed; none where the call is done
 abbrev pub status_text : Status → List ℕ
@@ -21,3 +22,4 @@ status_text (ReadFault word) = codes "read fault: word " ++ decimal word
 status_text (TooLong word) = codes "too long: word " ++ decimal word
 status_text (Refused word place) = codes "refused: word " ++ (decimal word ++ (codes ", byte " ++ decimal place))
 status_text SinkFault = codes "output fault"
+status_text StoreFault = codes "store fault"

@@ -3,7 +3,8 @@ ghost use Rattle.std.specs.Prelude.{◌≡◌, ◌≤◌, length, IfOk};
 ghost use Rattle.jam.specs.Devices.{no_faults, files_state};
 
 use crate::memory::is_out_of_memory;
-use crate::transfer::{fill, put_all};
+use crate::transfer::fill;
+use crate::whole_file::write_whole;
 use jam_outside::{OutsideError, Vault};
 use std::alloc::Global;
 use std::io::{Seek, SeekFrom};
@@ -61,11 +62,6 @@ fn read_part<R: Files>(rt: &R, name: &str, place: u64, buf: &mut [u8]) -> io::Re
     fill(&mut file, buf)
 }
 
-fn write_whole<R: Files>(rt: &R, name: &str, bytes: &[u8]) -> io::Result<()> {
-    let mut file = fs::create(rt, name)?;
-    put_all(&mut file, bytes)
-}
-
 impl<'a, R: Files> Vault for FileVault<'a, R> {
     ghost state = { files_state };
 
@@ -82,7 +78,7 @@ impl<'a, R: Files> Vault for FileVault<'a, R> {
     }
 
     fn store(&mut self, name: &str, bytes: &[u8]) -> Result<(), OutsideError> {
-        match write_whole(self.rt, name, bytes) {
+        match write_whole(self.rt, self.alloc, name, bytes) {
             Ok(()) => Ok(()),
             Err(e) if is_out_of_memory(&e) => Err(OutsideError::NoMemory),
             Err(_) => {

@@ -8,6 +8,7 @@ mod report;
 #[cfg(test)]
 mod tests;
 mod transfer;
+mod whole_file;
 mod words;
 
 use file_vault::FileVault;

@@ -17,6 +17,7 @@ pub fn status_code(status: Status) -> u8
         Status::TooLong(_) => 4,
         Status::Refused { .. } => 5,
         Status::SinkFault => 7,
+        Status::StoreFault => 8,
     }
 }
 
@@ -36,6 +37,7 @@ impl fmt::Display for Report {
             Status::TooLong(word) => write!(f, "too long: word {word}"),
             Status::Refused { word, place } => write!(f, "refused: word {word}, byte {place}"),
             Status::SinkFault => write!(f, "output fault"),
+            Status::StoreFault => write!(f, "store fault"),
         }
     }
 }

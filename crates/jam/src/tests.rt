@@ -3,7 +3,9 @@ use crate::file_vault::FileVault;
 use crate::out_sink::OutSink;
 use jam_outside::{OutsideError, Sink, Vault};
 use std::fmt::Display;
+use std::fs::Permissions;
 use std::io::ErrorKind;
+use std::os::unix::fs::PermissionsExt;
 use std::test::Fail;
 use std::{fs, io};
 
@@ -26,13 +28,31 @@ fn files_are_read_and_stored(rt: HostRuntime) -> Result<(), Fail> {
     assert!(rt; matches!(absent, Err(OutsideError::Failed)));
     assert_eq!(rt; vault.read_faults, 1);
     assert!(rt; vault.failed.as_str() == "absent");
+    let mode = Permissions::from_mode(0o600);
+    fs::set_permissions(&rt, "digits", mode)?;
     vault.store("digits", b"new")?;
+    assert!(rt; !fs::exists(&rt, "digits.part")?);
+    assert_eq!(rt;
+        fs::metadata(&rt, "digits")?.permissions().mode() % 0o1000,
+        0o600
+    );
     let count = vault.read_at("digits", 0, &mut room)?;
     assert!(rt; &room[..count] == b"new".as_slice());
     let refused = vault.store("absent/digits", b"lost");
     assert!(rt; matches!(refused, Err(OutsideError::Failed)));
     assert_eq!(rt; vault.store_faults, 1);
     assert!(rt; vault.store_failed.as_str() == "absent/digits");
+    let full = vault.store("/dev/full", b"lost");
+    assert!(rt; matches!(full, Err(OutsideError::Failed)));
+    vault.store("/dev/null", b"gone")?;
+    // A file in the way of the new one leaves the old one.
+    fs::write(&rt, "digits.part", "")?;
+    let in_the_way = vault.store("digits", b"newer");
+    assert!(rt; matches!(in_the_way, Err(OutsideError::Failed)));
+    let count = vault.read_at("digits", 0, &mut room)?;
+    assert!(rt; &room[..count] == b"new".as_slice());
+    assert_eq!(rt; vault.store_faults, 3);
+    fs::remove_file(&rt, "digits.part")?;
     fs::remove_file(&rt, "digits")?;
     Ok(())
 }

@@ -1,9 +1,8 @@
 -- What the machine does at a place past the code.
 use Rattle.std.proofs.lemmas.Bool.{cases_lt}
-use Rattle.std.proofs.Common.{◌≡◌, ℕ, ◌<◌, ◌≤◌, inl, inr, Bool, true, false, ◌&&◌, length, arith, ap, ◌∙◌, refl, Some, None}
+use Rattle.std.proofs.Common.{◌≡◌, ℕ, ◌<◌, ◌≤◌, inl, inr, true, false, ◌&&◌, length, arith, ap, ◌∙◌, refl}
 use Rattle.std.specs.Prelude.{nat_lt, if◌then◌else◌, is_some, unwrap_or}
 use Rattle.std.proofs.lemmas.Bool.Decides.{nat_tests}
-use Rattle.blob_decode.specs.declared.op.Op.{Op}
 use Rattle.blob_decode.specs.declared.op.Op.TheVariants.{Trap}
 use Rattle.blob_decode.specs.Opcodes.{op_numbered}
 use Rattle.blob_decode.specs.Program.{Program, mask_bit, code_byte, op_at}

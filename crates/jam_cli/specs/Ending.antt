@@ -4,8 +4,8 @@ use Rattle.std.specs.FinMap as fin
 use Rattle.jam_outside.specs.Files.{Files, content}
 use Rattle.jam_outside.specs.Causes.{VaultState, SinkState, Rose, Appends, AppendsPrefix}
 use Rattle.jam_cli.specs.declared.status.Status.{Status}
-use Rattle.jam_cli.specs.declared.status.Status.TheVariants.{Done, NoMemory, BadWords, ReadFault, TooLong, Refused, SinkFault}
-use Rattle.jam_cli.specs.Command.{Command, Asks, AsksNothing, Input, inputs, Values, ValueOf, SpellsValue, printed, stored}
+use Rattle.jam_cli.specs.declared.status.Status.TheVariants.{Done, NoMemory, BadWords, ReadFault, TooLong, Refused, SinkFault, StoreFault}
+use Rattle.jam_cli.specs.Command.{Command, Asks, AsksNothing, Input, inputs, Values, ValueOf, SpellsValue, printed, stored_name, stored}
 
 -- what is known of the outside at a call's begin and at its end
 pub record Call : Type 0 where
@@ -90,6 +90,7 @@ Ends (ReadFault word) c k = Rose k.vault.read_faults k.vault_after.read_faults �
 Ends (TooLong word) c k = IfSome k.vault.files (λ files. FirstTooLong files (inputs c) word) × PrintedNothing k × KeepsFiles k
 Ends (Refused word place) c k = (place ≡ 0) × IfSome k.vault.files (λ files. AllRead files (inputs c) × FirstRefused files (inputs c) word) × PrintedNothing k × KeepsFiles k
 Ends SinkFault c k = Rose k.sink.faults k.sink_after.faults × IfSome k.vault.files (λ files. PrintedPrefix k files c) × KeepsFiles k
+Ends StoreFault c k = Rose k.vault.store_faults k.vault_after.store_faults × (stored_name c ≡ Some k.vault_after.store_failed) × IfSome k.vault.files (λ files. PrintedAll k files c) × KeepsFiles k
 
 -- how a call with these words ends
 abbrev pub CallEnds : Status → List (List ℕ) → Call → Type 0
@@ -146,6 +147,12 @@ abbrev pub SinkFaultMeans : Status → List (List ℕ) → Call → Type 0
 SinkFaultMeans status words k = status ≡ SinkFault
     → Rose k.sink.faults k.sink_after.faults × IfSome k.vault.files (λ files. (c : Command) × Asks c words × PrintedPrefix k files c)
 
+-- StoreFault: only where the store failed in this call, under the name that is stored; all was printed
+abbrev pub StoreFaultMeans : Status → List (List ℕ) → Call → Type 0
+StoreFaultMeans status words k = status ≡ StoreFault
+    → Rose k.vault.store_faults k.vault_after.store_faults
+    × ((c : Command) × Asks c words × (stored_name c ≡ Some k.vault_after.store_failed) × IfSome k.vault.files (λ files. PrintedAll k files c))
+
 -- NoMemory: a prefix was printed where the command has a text for the files, else nothing
 abbrev pub NoMemoryMeans : Status → List (List ℕ) → Call → Type 0
 NoMemoryMeans status words k = status ≡ NoMemory
@@ -166,6 +173,15 @@ SilentMeans status k = IsSilent status → PrintedNothing k
 abbrev pub OthersKeepFiles : Status → Call → Type 0
 OthersKeepFiles status k = status ≢ Done → KeepsFiles k
 
+-- what a command reads holds what it did
+abbrev pub AllKept : Files → Files → List Input → Type 0
+AllKept before after [] = Unit {0}
+AllKept before after (i ∷ is) = (content after i.name ≡ content before i.name) × AllKept before after is
+
+-- however the call ends
+abbrev pub InputsKept : Status → List (List ℕ) → Call → Type 0
+InputsKept status words k = IfSome k.vault.files (λ before. (c : Command) → Asks c words → (after : Files) × (k.vault_after.files ≡ Some after) × AllKept before after (inputs c))
+
 -- the files of a command are told, were not too long and spell values of their kinds, and no call of the outside failed
 pub record IsServed (words : List (List ℕ)) (k : Call) : Type 0 where
   pub files : Files
@@ -176,6 +192,7 @@ pub record IsServed (words : List (List ℕ)) (k : Call) : Type 0 where
   pub gives : Gives files command values
   pub reads : Rose k.vault.read_faults k.vault_after.read_faults → ⊥
   pub puts : Rose k.sink.faults k.sink_after.faults → ⊥
+  pub stores : Rose k.vault.store_faults k.vault_after.store_faults → ⊥
 
 -- then the call is done, unless memory runs out
 abbrev pub ServedIsDone : Status → List (List ℕ) → Call → Type 0

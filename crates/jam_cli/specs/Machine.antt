@@ -1,11 +1,11 @@
 -- The machine of the code as the definitions see it.
-use Rattle.std.specs.Prelude.{ℕ, ◌<◌, List, Option, length}
+use Rattle.std.specs.Prelude.{◌<◌, Option}
 use Rattle.std.specs.FinMap as fin
 use Rattle.blob_decode.specs.Arguments.{Arguments}
 use Rattle.jam_cli.specs.declared.arguments.Arguments as told
 use Rattle.jam_cli.specs.declared.exit.Exit.{Exit}
 use Rattle.jam_cli.specs.declared.act.Act.{Act}
-use Rattle.jam_cli.specs.declared.act.Act.TheVariants.{Nothing, Exits, Gives, Jumps, Branches, JumpsThrough}
+use Rattle.jam_cli.specs.declared.act.Act.TheVariants.{Gives}
 use Rattle.jam_cli.specs.declared.machine.Machine.{Machine}
 use Rattle.jam_cli.specs.Effect.{State, After}
 use Rattle.jam_cli.specs.History.{Moment}

@@ -1,6 +1,8 @@
 -- The lines that are printed. Each ends with a line feed; numbers are decimal, bytes are lower-case hexadecimal.
 use Rattle.std.specs.Prelude.{ℕ, ◌+◌, List, [], ◌∷◌, ◌++◌, length, take, codes, decimal, Option, Some, None}
+use Rattle.std.specs.FinMap as fin
 use Rattle.hex.specs.Hex.{encode_lower}
+use Rattle.batch_accumulate.specs.declared.posterior.Posterior.{Posterior}
 use Rattle.jam_cli.specs.declared.exit.Exit.{Exit}
 use Rattle.jam_cli.specs.declared.exit.Exit.TheVariants.{Halt, Panic, OutOfGas, Fault, Host}
 use Rattle.jam_cli.specs.History.{Moment, output}
@@ -44,3 +46,9 @@ block m = last_exit_line m.exit ++ (number_line (codes "pc") m.state.pc ++ (numb
 -- a digest
 abbrev pub digest_line : List ℕ → List ℕ
 digest_line digest = encode_lower digest ++ (10 ∷ [])
+
+-- the lines of a batch without reports, and the digest of the bytes that spell the posterior state
+abbrev pub batch_lines : Posterior → List ℕ → List ℕ
+batch_lines p digest =
+    number_line (codes "slot") p.state.slot ++ (number_line (codes "left-out") p.left_out ++ (number_line (codes "preimages") p.preimages
+    ++ (number_line (codes "accounts") (fin.len p.state.accounts) ++ (codes "state " ++ digest_line digest))))

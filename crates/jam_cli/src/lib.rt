@@ -3,10 +3,12 @@
 
 mod act;
 mod arguments;
+mod commands;
 mod exit;
 mod input;
 mod laws;
 mod machine;
+mod product;
 mod status;
 mod top;
 mod transcript;

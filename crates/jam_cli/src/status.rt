@@ -3,7 +3,7 @@
 /// The end of a call, by its cause.
 #[derive(Clone, Copy, Debug, PartialEq, Eq)]
 pub enum Status {
-    /// All was printed.
+    /// All was printed and stored.
     Done,
     /// Memory ran out.
     NoMemory,
@@ -17,4 +17,6 @@ pub enum Status {
     Refused { word: u8, place: u64 },
     /// The sink failed; a prefix was printed.
     SinkFault,
+    /// The store failed; all was printed.
+    StoreFault,
 }

@@ -5,12 +5,14 @@ use std::alloc::{AllocError, Global};
 use std::collections::BTreeMap;
 use std::test::Fail;
 
+mod accumulate;
+
 const FIRST_RUN: [u8; 15] = [0, 0, 10, 0x33, 7, 42, 0x33, 0, 0, 0, 0xff, 0x32, 0, 9, 1];
 
 const FIRST_BLOCK: &str =
     "exit halt\npc 8\ngas 97\nr0 18446744073709486080\nr1 0\nr2 0\nr3 0\nr4 0\nr5 0\nr6 0\nr7 42\nr8 0\nr9 0\nr10 0\nr11 0\nr12 0\noutput 0 -\n";
 
-fn words_of(alloc: Global, words: &[&str]) -> Result<Vec<String>, AllocError> {
+pub fn words_of(alloc: Global, words: &[&str]) -> Result<Vec<String>, AllocError> {
     let mut all = Vec::new(alloc);
     for word in words {
         all.push(String::from_str(alloc, word)?)?;

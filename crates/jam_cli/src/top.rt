@@ -1,16 +1,15 @@
 // The top call.
 ghost use Rattle.std.specs.Prelude.{◌≡◌};
-ghost use Rattle.jam_cli.specs.Command.{run, hash, texts};
-ghost use Rattle.jam_cli.specs.Ending.{Ends, CallEnds, call, DoneMeans, BadWordsMeans, BadWordsComes, ReadFaultMeans, TooLongMeans, TooLongComes, RefusedMeans, RefusedComes, SinkFaultMeans, NoMemoryMeans, SilentMeans, OthersKeepFiles, ServedIsDone};
-ghost use Rattle.jam_cli.specs.Parts.{status_of, put_status};
+ghost use Rattle.jam_cli.specs.Command.{texts};
+ghost use Rattle.jam_cli.specs.Ending.{Ends, CallEnds, call, DoneMeans, BadWordsMeans, BadWordsComes, ReadFaultMeans, TooLongMeans, TooLongComes, RefusedMeans, RefusedComes, SinkFaultMeans, StoreFaultMeans, NoMemoryMeans, SilentMeans, OthersKeepFiles, InputsKept, ServedIsDone};
+ghost use Rattle.jam_cli.specs.Parts.{asked, status_of};
 ghost use Rattle.jam_cli.specs.declared.status.Status.TheVariants.{NoMemory};
 
-use crate::input::{program_of, read_input};
+use crate::commands::product_of;
+use crate::product::{print, store};
 use crate::status::Status;
-use crate::transcript::{digest_text, outcome_of};
 use crate::words::{Command, command_of};
-use blake2b_core::digest;
-use jam_outside::{OutsideError, Sink, Vault};
+use jam_outside::{Sink, Vault};
 use std::alloc::{AllocError, Global};
 
 impl From<AllocError> for Status {
@@ -21,48 +20,19 @@ impl From<AllocError> for Status {
     }
 }
 
-impl From<OutsideError> for Status {
-    ghost from_gives = { λ x e. e ≡ put_status x };
-
-    fn from(error: OutsideError) -> Self {
-        match error {
-            OutsideError::Failed => Status::SinkFault,
-            OutsideError::NoMemory => Status::NoMemory,
-        }
-    }
-}
-
-// `run BLOB GAS`
+// Reads a command's files, works, prints, and last of all stores.
 #[tactic(auto, using(std::proofs::lemmas::Result::err_from_is_err_and))]
-fn run<V: Vault, S: Sink>(
+fn carry_out<V: Vault, S: Sink>(
     alloc: Global,
-    blob: &str,
-    gas: u64,
+    command: Command<'_>,
     vault: &mut V,
     out: &mut S,
 ) -> Result<(), Status>
-    ensures { Ends (status_of result) (run blob.now gas) (call (V.state vault.old) (V.state vault.new) (S.state out.old) (S.state out.new)) }
+    ensures { Ends (status_of result) (asked command.entry) (call (V.state vault.old) (V.state vault.new) (S.state out.old) (S.state out.new)) }
 {
-    let bytes = read_input(alloc, vault, blob, 1)?;
-    let program = program_of(alloc, &bytes, 1)?;
-    let text = outcome_of(alloc, program, gas)?;
-    out.put(text.as_bytes())?;
-    Ok(())
-}
-
-// `hash FILE`
-#[tactic(auto, using(std::proofs::lemmas::Result::err_from_is_err_and))]
-fn hash<V: Vault, S: Sink>(
-    alloc: Global,
-    file: &str,
-    vault: &mut V,
-    out: &mut S,
-) -> Result<(), Status>
-    ensures { Ends (status_of result) (hash file.now) (call (V.state vault.old) (V.state vault.new) (S.state out.old) (S.state out.new)) }
-{
-    let bytes = read_input(alloc, vault, file, 1)?;
-    let text = digest_text(alloc, &digest(&bytes))?;
-    out.put(text.as_bytes())?;
+    let product = product_of(alloc, command, vault)?;
+    print(out, product.text.as_str())?;
+    store(vault, &product.stored)?;
     Ok(())
 }
 
@@ -87,8 +57,7 @@ fn serve<V: Vault, S: Sink>(
     match command_of(alloc, words) {
         Err(_) => Status::NoMemory,
         Ok(None) => Status::BadWords,
-        Ok(Some(Command::Run { blob, gas })) => ended(run(alloc, blob, gas, vault, out)),
-        Ok(Some(Command::Hash { file })) => ended(hash(alloc, file, vault, out)),
+        Ok(Some(command)) => ended(carry_out(alloc, command, vault, out)),
     }
 }
 
@@ -114,10 +83,12 @@ pub fn jam<V: Vault, S: Sink>(
     ensures refused { RefusedMeans result (texts words.now.items) (call (V.state vault.old) (V.state vault.new) (S.state out.old) (S.state out.new)) }
     ensures refused_where { RefusedComes result (texts words.now.items) (call (V.state vault.old) (V.state vault.new) (S.state out.old) (S.state out.new)) }
     ensures sink_fault { SinkFaultMeans result (texts words.now.items) (call (V.state vault.old) (V.state vault.new) (S.state out.old) (S.state out.new)) }
+    ensures store_fault { StoreFaultMeans result (texts words.now.items) (call (V.state vault.old) (V.state vault.new) (S.state out.old) (S.state out.new)) }
     ensures no_memory { NoMemoryMeans result (texts words.now.items) (call (V.state vault.old) (V.state vault.new) (S.state out.old) (S.state out.new)) }
 
     ensures silent { SilentMeans result (call (V.state vault.old) (V.state vault.new) (S.state out.old) (S.state out.new)) }
     ensures files { OthersKeepFiles result (call (V.state vault.old) (V.state vault.new) (S.state out.old) (S.state out.new)) }
+    ensures inputs_kept { InputsKept result (texts words.now.items) (call (V.state vault.old) (V.state vault.new) (S.state out.old) (S.state out.new)) }
     ensures complete { ServedIsDone result (texts words.now.items) (call (V.state vault.old) (V.state vault.new) (S.state out.old) (S.state out.new)) }
 {
     serve(alloc, words, vault, out)

@@ -1,11 +1,12 @@
 // The lines that are printed.
 ghost use Rattle.std.specs.Prelude.{◌≡◌, ◌++◌, OnOk, IfOk, string_bytes, codes, Some};
-ghost use Rattle.jam_cli.specs.Transcript.{number_line, exit_line, register_lines, block, digest_line};
+ghost use Rattle.jam_cli.specs.Transcript.{number_line, exit_line, register_lines, block, digest_line, batch_lines};
 ghost use Rattle.jam_cli.specs.History.{answer, raw};
 ghost use Rattle.jam_cli.specs.Machine.{moment};
 
 use crate::exit::Exit;
 use crate::machine::Machine;
+use batch_accumulate::Posterior;
 use blob_decode::Program;
 use std::alloc::{AllocError, Global};
 
@@ -65,5 +66,23 @@ pub fn digest_text(alloc: Global, digest: &[u8; 32]) -> Result<String, AllocErro
 {
     let mut text = hex::encode(alloc, digest)?;
     text.push('\n')?;
+    Ok(text)
+}
+
+/// The lines of a batch, with the digest of the bytes that spell its posterior state.
+pub fn batch_text(
+    alloc: Global,
+    posterior: &Posterior,
+    digest: &[u8; 32],
+) -> Result<String, AllocError>
+    ensures { IfOk result (λ text. string_bytes text ≡ batch_lines posterior.now digest.now) }
+{
+    let mut text = String::new(alloc);
+    push_number(&mut text, "slot", u64::from(posterior.state.slot))?;
+    push_number(&mut text, "left-out", posterior.left_out)?;
+    push_number(&mut text, "preimages", posterior.preimages)?;
+    push_number(&mut text, "accounts", posterior.state.accounts.len() as u64)?;
+    text.push_str("state ")?;
+    text.push_str(digest_text(alloc, digest)?.as_str())?;
     Ok(text)
 }

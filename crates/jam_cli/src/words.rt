@@ -1,6 +1,6 @@
 // The words of a command line.
-ghost use Rattle.std.specs.Prelude.{◌≡◌, ◌<◌, ◌^◌, ℕ, IfOk, MatchOption, IsTrue, ◌↔◌};
-ghost use Rattle.jam_cli.specs.Command.{Asks, AsksNothing, IsName, IsNumber, texts, run, hash};
+ghost use Rattle.std.specs.Prelude.{◌≡◌, ◌≢◌, ◌<◌, ◌^◌, ℕ, IfOk, MatchOption, IsTrue, ◌↔◌};
+ghost use Rattle.jam_cli.specs.Command.{Asks, AsksNothing, IsName, IsNumber, texts, run, hash, accumulate};
 ghost use Rattle.jam_cli.specs.Parts.{asked};
 
 use std::alloc::{AllocError, Global};
@@ -9,12 +9,24 @@ use std::alloc::{AllocError, Global};
 #[derive(Clone, Copy)]
 pub enum Command<'a> {
     /// `run BLOB GAS`: runs a program blob with so much gas.
-    Run { blob: &'a str, gas: u64 },
+    Run {
+        blob: &'a str,
+        gas: u64,
+    },
     /// `hash FILE`: the digest of the bytes of a file.
-    Hash { file: &'a str },
+    Hash {
+        file: &'a str,
+    },
+    /// `accumulate STATE BATCH POSTERIOR SLICE`: stores the state that a batch makes of a state.
+    Accumulate {
+        state: &'a str,
+        batch: &'a str,
+        posterior: &'a str,
+    },
 }
 
-fn is_text(word: &str, text: &str) -> bool
+/// Whether two words are the same.
+pub fn is_text(word: &str, text: &str) -> bool
     ensures { IsTrue result ↔ (word.now ≡ text.now) }
 {
     word == text
@@ -61,6 +73,43 @@ fn hash_of(file: &str) -> Option<Command<'_>>
     Some(Command::Hash { file })
 }
 
+// Three names, of which the last is neither of the others.
+fn accumulate_names<'a>(state: &'a str, batch: &'a str, posterior: &'a str) -> Option<Command<'a>>
+    ensures { MatchOption result
+        (IsName state.now → IsName batch.now → IsName posterior.now → posterior.now ≢ state.now → posterior.now ≢ batch.now → ⊥)
+        (λ command. (asked command ≡ accumulate state.now batch.now posterior.now 0) × IsName state.now × IsName batch.now × IsName posterior.now × (posterior.now ≢ state.now) × (posterior.now ≢ batch.now)) }
+{
+    if state.is_empty() || batch.is_empty() || posterior.is_empty() {
+        return None;
+    }
+    if is_text(posterior, state) || is_text(posterior, batch) {
+        return None;
+    }
+    Some(Command::Accumulate {
+        state,
+        batch,
+        posterior,
+    })
+}
+
+fn accumulate_of<'a>(
+    alloc: Global,
+    state: &'a str,
+    batch: &'a str,
+    posterior: &'a str,
+    slice: &str,
+) -> Result<Option<Command<'a>>, AllocError>
+    ensures { IfOk result (λ found. MatchOption found
+        (IsName state.now → IsName batch.now → IsName posterior.now → posterior.now ≢ state.now → posterior.now ≢ batch.now → IsNumber 0 slice.now → ⊥)
+        (λ command. (asked command ≡ accumulate state.now batch.now posterior.now 0) × IsName state.now × IsName batch.now × IsName posterior.now × (posterior.now ≢ state.now) × (posterior.now ≢ batch.now) × IsNumber 0 slice.now)) }
+{
+    match number_of(alloc, slice)? {
+        Some(number) if number == 0 => Ok(accumulate_names(state, batch, posterior)),
+        Some(_) => Ok(None),
+        None => Ok(None),
+    }
+}
+
 /// The command that has these words, if there is one.
 pub fn command_of(alloc: Global, words: &[String]) -> Result<Option<Command<'_>>, AllocError>
     ensures { IfOk result (λ found. MatchOption found (AsksNothing (texts words.now)) (λ command. Asks (asked command) (texts words.now))) }
@@ -70,6 +119,15 @@ pub fn command_of(alloc: Global, words: &[String]) -> Result<Option<Command<'_>>
             run_of(alloc, blob.as_str(), gas.as_str())
         }
         [command, file] if is_text(command.as_str(), "hash") => Ok(hash_of(file.as_str())),
+        [command, state, batch, posterior, slice] if is_text(command.as_str(), "accumulate") => {
+            accumulate_of(
+                alloc,
+                state.as_str(),
+                batch.as_str(),
+                posterior.as_str(),
+                slice.as_str(),
+            )
+        }
         _ => Ok(None),
     }
 }

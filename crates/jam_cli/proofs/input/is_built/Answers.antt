@@ -1,4 +1,4 @@
-use Rattle.std.proofs.Common.{◌≡◌, ◌≤◌, ℕ, length, ap, arith, rules, true, false, sym, ◌∙◌, below_more, refl}
+use Rattle.std.proofs.Common.{◌≡◌, ℕ, length, ap, arith, true, sym, ◌∙◌, below_more, refl}
 use Rattle.std.specs.Prelude.{IsTrue}
 use Rattle.blob_decode.specs.Program.{op_at}
 use Rattle.jam_cli.specs.Effect.{is_built}

@@ -1,6 +1,6 @@
-use Rattle.std.proofs.Common.{◌≡◌, true, false, refl, sym, ◌∙◌, subst}
+use Rattle.std.proofs.Common.{◌≡◌, true, refl, subst}
 use Rattle.jam_codec.proofs.Formats.{one_spelling}
-use Rattle.blob_decode.specs.Program.{Program, program_blob}
+use Rattle.blob_decode.specs.Program.{program_blob}
 use Rattle.blob_decode.proofs.BlobLaws.{program_blob_laws}
 use Rattle.jam_cli.specs.Command.{IsBuilt}
 use Rattle.jam_cli.proofs.input.program_of.Goals as goal

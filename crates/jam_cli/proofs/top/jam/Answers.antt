@@ -1,5 +1,5 @@
 -- Each clause follows from how the call ends, whatever the command.
-use Rattle.jam_cli.proofs.Endings.{done_means, bad_words_means, bad_words_comes, read_fault_means, too_long_means, too_long_comes, refused_means, refused_comes, sink_fault_means, no_memory_means, silent_means, others_keep_files, served_is_done}
+use Rattle.jam_cli.proofs.Endings.{done_means, bad_words_means, bad_words_comes, read_fault_means, too_long_means, too_long_comes, refused_means, refused_comes, sink_fault_means, store_fault_means, no_memory_means, silent_means, others_keep_files, inputs_kept, served_is_done}
 use Rattle.jam_cli.proofs.top.jam.Goals as goal
 
 pub returns-clause-done : goal.returns-clause-done
@@ -40,3 +40,9 @@ returns-clause-files g c = others_keep_files _ _ _ c.serve.ensures
 
 pub returns-clause-complete : goal.returns-clause-complete
 returns-clause-complete g c = served_is_done _ _ _ c.serve.ensures
+
+pub returns-clause-store_fault : goal.returns-clause-store_fault
+returns-clause-store_fault g c = store_fault_means _ _ _ c.serve.ensures
+
+pub returns-clause-inputs_kept : goal.returns-clause-inputs_kept
+returns-clause-inputs_kept g c = inputs_kept _ _ _ c.serve.ensures

@@ -1,4 +1,4 @@
-use Rattle.std.proofs.Common.{◌≡◌, Some, refl, sym, ◌∙◌, append_assoc, rules}
+use Rattle.std.proofs.Common.{Some, refl, append_assoc, rules}
 use Rattle.jam_cli.specs.Machine.{moment}
 use Rattle.jam_cli.proofs.Lines.{block-raw}
 use Rattle.jam_cli.proofs.transcript.block_of.Goals as goal

@@ -1,6 +1,6 @@
-use Rattle.std.proofs.Common.{◌≡◌, sym, ◌∙◌, ap, Some, None, refl}
+use Rattle.std.proofs.Common.{sym, ◌∙◌, ap, Some, None, refl}
 use Rattle.jam_cli.specs.Machine.{state_of, moment}
-use Rattle.jam_cli.specs.History.{step, answer}
+use Rattle.jam_cli.specs.History.{answer}
 use Rattle.jam_cli.proofs.Histories.{answer-ended, answer-going, gas-falls}
 use Rattle.jam_cli.proofs.machine.Machine.run.Goals as goal
 

@@ -1,4 +1,4 @@
-use Rattle.std.proofs.Common.{◌≤◌, ℕ, length, ap, sym, arith}
+use Rattle.std.proofs.Common.{ℕ, length, ap, sym, arith}
 use Rattle.jam_cli.specs.Machine.{state_of}
 use Rattle.jam_cli.proofs.Effects.{effect-past}
 use Rattle.jam_cli.proofs.machine.Machine.take_effect.Goals as goal
