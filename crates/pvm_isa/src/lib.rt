@@ -18,3 +18,6 @@ pub use form::Form;
 pub use laws::opcode_laws;
 pub use op::Op;
 pub use opcodes::{form_of, is_terminator, name_of, number_of, op_named, op_of};
+
+#[cfg(test)]
+mod tests;
