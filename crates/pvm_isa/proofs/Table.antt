@@ -1,12 +1,12 @@
 -- The code's table of opcodes is that of the definitions.
-use Rattle.std.proofs.Common.{◌≡◌, ◌≢◌, ℕ, zero, suc, ◌<◌, Bool, true, false, ◌&&◌, List, get_or, Option, Some, None, MatchOption, refl, arith, inl, inr, sym, ◌∙◌, ap, subst, Bor}
+use Rattle.std.proofs.Common.{◌≡◌, ◌≢◌, ℕ, zero, suc, ◌<◌, Bool, true, false, ◌&&◌, get_or, Option, Some, None, MatchOption, refl, arith, inl, inr, sym, ◌∙◌, ap, subst}
 use Rattle.std.specs.Prelude.{◌==◌}
 use Rattle.std.proofs.lemmas.Bool.{cases_eq, eqb-true}
 use Rattle.pvm_isa.specs.declared.opcodes.TheConstants.{OPCODES}
 use Rattle.pvm_isa.specs.declared.form.Form.{Form}
 use Rattle.pvm_isa.specs.declared.op.Op.{Op}
 use Rattle.pvm_isa.specs.declared.op.Op.TheVariants.{Trap}
-use Rattle.pvm_isa.specs.Opcodes.{entry, number_of, name_of, form_of, op_numbered}
+use Rattle.pvm_isa.specs.Opcodes.{entry, number_of, form_of, op_numbered}
 use Rattle.pvm_isa.proofs.Lookups.{numbered, numbered-only}
 
 abbrev pub Row : Type 0

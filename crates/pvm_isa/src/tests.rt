@@ -1,33 +1,33 @@
 //! Opcodes and arguments, instruction by instruction, as a reader of the tables would write them out.
 use super::*;
+use std::process::Abort;
 use std::test::*;
+
+fn stands(rt: &impl Abort, number: u8, name: &str, op: Op, ends: bool) {
+    assert_eq!(rt; op_of(number), Some(op), "number {number}");
+    assert_eq!(rt; number_of(op), number, "number of {name}");
+    assert_eq!(rt; op_named(name), Some(op), "name {name}");
+    assert!(rt; name_of(op) == name, "name of {number}");
+    assert_eq!(rt; is_terminator(op), ends, "end at {name}");
+}
 
 #[test]
 fn numbers_and_names_stand_for_opcodes(rt: HostRuntime) {
-    let table = [
-        (0, "trap", Op::Trap, true),
-        (20, "load_imm_64", Op::LoadImm64, false),
-        (31, "store_imm_u16", Op::StoreImmU16, false),
-        (50, "jump_ind", Op::JumpInd, true),
-        (53, "load_i8", Op::LoadI8, false),
-        (83, "branch_lt_u_imm", Op::BranchLtUImm, true),
-        (144, "shlo_l_imm_alt_32", Op::ShloLImmAlt32, false),
-        (147, "cmov_iz_imm", Op::CmovIzImm, false),
-        (159, "rot_r_64_imm_alt", Op::RotR64ImmAlt, false),
-        (171, "branch_ne", Op::BranchNe, true),
-        (180, "load_imm_jump_ind", Op::LoadImmJumpInd, true),
-        (193, "div_u_32", Op::DivU32, false),
-        (209, "shar_r_64", Op::SharR64, false),
-        (215, "mul_upper_s_u", Op::MulUpperSU, false),
-        (230, "min_u", Op::MinU, false),
-    ];
-    for (number, name, op, ends) in table {
-        assert_eq!(rt; op_of(number), Some(op), "number {number}");
-        assert_eq!(rt; number_of(op), number, "number of {name}");
-        assert_eq!(rt; op_named(name), Some(op), "name {name}");
-        assert!(rt; name_of(op) == name, "name of {number}");
-        assert_eq!(rt; is_terminator(op), ends, "end at {name}");
-    }
+    stands(&rt, 0, "trap", Op::Trap, true);
+    stands(&rt, 20, "load_imm_64", Op::LoadImm64, false);
+    stands(&rt, 31, "store_imm_u16", Op::StoreImmU16, false);
+    stands(&rt, 50, "jump_ind", Op::JumpInd, true);
+    stands(&rt, 53, "load_i8", Op::LoadI8, false);
+    stands(&rt, 83, "branch_lt_u_imm", Op::BranchLtUImm, true);
+    stands(&rt, 144, "shlo_l_imm_alt_32", Op::ShloLImmAlt32, false);
+    stands(&rt, 147, "cmov_iz_imm", Op::CmovIzImm, false);
+    stands(&rt, 159, "rot_r_64_imm_alt", Op::RotR64ImmAlt, false);
+    stands(&rt, 171, "branch_ne", Op::BranchNe, true);
+    stands(&rt, 180, "load_imm_jump_ind", Op::LoadImmJumpInd, true);
+    stands(&rt, 193, "div_u_32", Op::DivU32, false);
+    stands(&rt, 209, "shar_r_64", Op::SharR64, false);
+    stands(&rt, 215, "mul_upper_s_u", Op::MulUpperSU, false);
+    stands(&rt, 230, "min_u", Op::MinU, false);
 }
 
 #[test]

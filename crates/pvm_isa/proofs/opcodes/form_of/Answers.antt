@@ -1,5 +1,5 @@
 use Rattle.std.proofs.Common.{◌≡◌, None, Some, ap, subst, sym, ◌∙◌}
-use Rattle.pvm_isa.specs.Opcodes.{form_of, number_of}
+use Rattle.pvm_isa.specs.Opcodes.{number_of}
 use Rattle.pvm_isa.proofs.Table.{row, IsRow, listed}
 use Rattle.pvm_isa.proofs.opcodes.form_of.Goals as goal
 

@@ -1,5 +1,4 @@
-use Rattle.std.proofs.Common.{◌≡◌, ◌<◌, None, Some, Option, ap, sym, ◌∙◌, arith}
-use Rattle.pvm_isa.specs.declared.op.Op.{Op}
+use Rattle.std.proofs.Common.{◌≡◌, None, Some, ap, sym, ◌∙◌, arith}
 use Rattle.pvm_isa.specs.Opcodes.{op_numbered}
 use Rattle.pvm_isa.proofs.Table.{opcode_in, row, row-numbered, numbered-Defined}
 use Rattle.pvm_isa.proofs.opcodes.op_of.Goals.{In-None, In-Some}
