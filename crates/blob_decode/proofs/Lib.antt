@@ -1,5 +1,5 @@
-pub mod Table
 pub mod Starts
 pub mod KeptLaws
 pub mod BlobLaws
+pub mod Spelled
 pub mod Windows

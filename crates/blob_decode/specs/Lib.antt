@@ -1,6 +1,4 @@
-pub mod Opcodes
 pub mod Program
-pub mod Arguments
 pub mod Kept
 pub mod Parts
 pub mod Refusal

@@ -1,9 +1,10 @@
 -- Programs, and the blobs that spell them (Gray Paper 0.7.0, appendix A; the layout is this project's own).
 use Rattle.std.specs.Prelude.{◌≡◌, ◌<◌, ◌⊎◌, IsTrue, ℕ, zero, suc, ◌+◌, ◌-◌, ◌/◌, ◌%◌, Bool, true, false, ◌&&◌, ◌||◌, ◌==◌, nat_lt, nat_le, List, length, get_or, slice_get, if◌then◌else◌, Option, Some, None, is_some, unwrap_or}
 use Rattle.jam_codec.specs.Format.{Format, both, by, natural_where, fixed_where, bytes_where, bits_where, numbers_of, any}
-use Rattle.blob_decode.specs.declared.op.Op.{Op}
-use Rattle.blob_decode.specs.declared.op.Op.TheVariants.{Trap}
-use Rattle.blob_decode.specs.Opcodes.{number_of, op_numbered, is_terminator}
+use Rattle.pvm_isa.specs.declared.op.Op.{Op}
+use Rattle.pvm_isa.specs.declared.op.Op.TheVariants.{Trap}
+use Rattle.pvm_isa.specs.Opcodes.{number_of, op_numbered}
+use Rattle.pvm_isa.specs.Terminators.{is_terminator}
 
 -- the width of a jump's spelling in bytes, the targets of jumps, the code, and for each of its bytes
 -- whether an instruction begins there
@@ -53,9 +54,17 @@ op_begins p i = nat_lt i (length p.code) && mask_bit p i && is_some (op_numbered
 unfoldable pub op_at : Program → ℕ → Op
 op_at p i = if op_begins p i then unwrap_or (op_numbered (code_byte p i)) Trap else Trap
 
+-- a byte is the number of an opcode that ends a block; a number that is not defined ends none
+abbrev pub ends : Option Op → Bool
+ends None = false
+ends (Some op) = is_terminator op
+
+abbrev pub ends_block : ℕ → Bool
+ends_block byte = ends (op_numbered byte)
+
 -- an instruction that ends a block stands at n, and the place after it is i
 abbrev pub ends_before : Program → ℕ → ℕ → Bool
-ends_before p i n = mask_bit p n && is_terminator (code_byte p n) && next p n == i
+ends_before p i n = mask_bit p n && ends_block (code_byte p n) && next p n == i
 
 -- a test passes at some place below n
 unfoldable pub some_below : ℕ → (ℕ → Bool) → Bool
@@ -71,7 +80,8 @@ pub record IsStart (p : Program) (i : ℕ) : Type 0 where
   pub within : i < length p.code
   pub begins : IsTrue (mask_bit p i)
   pub defined : (op : Op) × (number_of op ≡ code_byte p i)
-  pub after : (i ≡ 0) ⊎ ((n : ℕ) × (n < length p.code) × IsTrue (mask_bit p n) × IsTrue (is_terminator (code_byte p n)) × (i ≡ next p n))
+  pub after : (i ≡ 0) ⊎ ((n : ℕ) × (n < length p.code) × IsTrue (mask_bit p n)
+      × ((op : Op) × (number_of op ≡ code_byte p n) × IsTrue (is_terminator op)) × (i ≡ next p n))
 
 -- where a jump leads
 pub data Landing : Type 0 where

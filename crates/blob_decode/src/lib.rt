@@ -2,12 +2,10 @@
 #![tactic(auto)]
 
 mod laws;
-mod op;
 mod parts;
 mod program;
 
 pub use laws::{blob_laws, start_law};
-pub use op::{Op, op_of};
 pub use program::{Program, ProgramRefusal};
 
 #[cfg(test)]

@@ -1,13 +1,15 @@
 // The fields of a blob, in its bytes.
-ghost use Rattle.std.specs.Prelude.{◌≡◌, ◌*◌, ◌≤◌, IfOk, MatchResult, Ok, Err, length};
+ghost use Rattle.std.specs.Prelude.{◌≡◌, ◌*◌, ◌≤◌, ◌++◌, IfOk, OnOk, MatchResult, Ok, Err, length};
 ghost use Rattle.jam_codec.specs.Spelling.{little_number, numbers, binary_digits};
 ghost use Rattle.jam_codec.specs.Reading.{Reads};
 ghost use Rattle.jam_codec.specs.Format.{numbers_of, whole};
+ghost use Rattle.jam_codec.specs.Laws.{AreBytes};
 ghost use Rattle.blob_decode.specs.Program.{program_blob};
 ghost use Rattle.blob_decode.specs.Kept.{program_of, Keeps};
 ghost use Rattle.blob_decode.specs.Parts.{lists};
 
 use jam_codec::{Cursor, Malformed};
+use std::alloc::AllocError;
 
 // The fields of a program blob: the count of the jumps and their width, and the bytes of the
 // jumps, the code and the mask.
@@ -73,6 +75,21 @@ fn read_parts<'a>(cursor: &mut Cursor<'a>) -> Result<Parts<'a>, Malformed>
     }
     let size = cursor.natural()?;
     read_lists(cursor, count, width as u8, size)
+}
+
+// Adds the bytes of the jumps, the code and the mask, or some of them.
+pub fn push_lists(
+    out: &mut Vec<u8>,
+    table: &[u8],
+    code: &[u8],
+    mask: &[u8],
+) -> Result<(), AllocError>
+    ensures ok { OnOk result (out.new.items ≡ out.old.items ++ (table.now ++ (code.now ++ mask.now))) }
+    ensures bytes { OnOk result (AreBytes table.now) }
+{
+    out.extend_from_slice(table)?;
+    out.extend_from_slice(code)?;
+    out.extend_from_slice(mask)
 }
 
 // The fields, where the bytes are a program blob; else the place of the first that does not spell.

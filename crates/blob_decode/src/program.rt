@@ -2,15 +2,15 @@
 ghost use Rattle.std.specs.Prelude.{◌≡◌, ◌<◌, ◌≤◌, ◌+◌, ◌^◌, ℕ, true, false, None, if◌then◌else◌, IfSome, IfNone, IfOk, IfErr, IsErrOf, length, take, drop, slice_get};
 ghost use Rattle.jam_codec.specs.Spelling.{little_number};
 ghost use Rattle.jam_codec.specs.Format.{Spells};
-ghost use Rattle.blob_decode.specs.declared.program.ProgramRefusal.TheVariants.{NoMemory};
-ghost use Rattle.blob_decode.specs.Opcodes.{op_numbered};
-ghost use Rattle.blob_decode.specs.Refusal.{IsAtFront};
+ghost use Rattle.blob_decode.specs.declared.program.ProgramRefusal.TheVariants.{NoMemory, NotProgram};
+ghost use Rattle.pvm_isa.specs.Opcodes.{op_numbered};
+ghost use Rattle.blob_decode.specs.Refusal.{IsPlaced};
 ghost use Rattle.blob_decode.specs.Kept.{FirstSet};
-ghost use Rattle.blob_decode.specs.Program.{program_blob, mask_bit, code_byte, op_begins, op_at, gap, skip, is_start, ends_before, some_below};
+ghost use Rattle.blob_decode.specs.Program.{program_blob, mask_bit, code_byte, op_begins, op_at, gap, skip, is_start, ends_block, ends_before, some_below};
 
-use crate::op::{Op, is_terminator, op_of};
-use crate::parts::parts_of;
-use jam_codec::number_of;
+use crate::parts::{parts_of, push_lists};
+use jam_codec::{Malformed, number_of, push_fixed, push_natural};
+use pvm_isa::{Op, is_terminator, op_of};
 use std::alloc::{AllocError, Global};
 use std::marker::Model;
 use thiserror::Error;
@@ -18,11 +18,19 @@ use thiserror::Error;
 /// Why bytes were not read as a program.
 #[derive(Clone, Copy, Debug, PartialEq, Eq, Error)]
 pub enum ProgramRefusal {
-    /// The bytes are no program blob.
+    /// The bytes are no program blob: at this place a field does not spell.
     #[error("not a program blob at byte {place}")]
     NotProgram { place: u64 },
     #[error("out of memory")]
     NoMemory,
+}
+
+impl From<Malformed> for ProgramRefusal {
+    ghost from_gives = { λ x e. e ≡ NotProgram x.place };
+
+    fn from(error: Malformed) -> Self {
+        ProgramRefusal::NotProgram { place: error.place }
+    }
 }
 
 impl From<AllocError> for ProgramRefusal {
@@ -68,6 +76,17 @@ fn window(mask: &[u8], first: usize) -> u32
     ])
 }
 
+// Whether the number is that of an opcode that ends a block.
+#[inline]
+fn ends_block(number: u8) -> bool
+    ensures { result ≡ ends_block number }
+{
+    match op_of(number) {
+        Some(op) => is_terminator(op),
+        None => false,
+    }
+}
+
 // Of the lowest 24 bits, how many stand before the first that is set.
 #[inline]
 fn zeros_before(bits: u32) -> u8
@@ -80,15 +99,14 @@ impl Program {
     /// The program that a blob spells: all of its bytes, and no others after them.
     ///
     /// # Errors
-    /// `NotProgram` at place 0 where no program is spelled so, and `NoMemory`.
+    /// `NotProgram` where no program is spelled so, at the first field that does not spell, or after
+    /// the blob where bytes are left. `NoMemory`.
     pub fn deblob(alloc: Global, bytes: &[u8]) -> Result<Program, ProgramRefusal>
         ensures found { IfOk result (λ p. Spells program_blob p bytes.now) }
         ensures refused { (p : _) → Spells program_blob p bytes.now → (place : ℕ) → IsErrOf result (ProgramRefusal.NotProgram place) → ⊥ }
-        ensures place { IfErr result IsAtFront }
+        ensures place { IfErr result (IsPlaced bytes.now) }
     {
-        let Ok(parts) = parts_of(bytes) else {
-            return Err(ProgramRefusal::NotProgram { place: 0 });
-        };
+        let parts = parts_of(bytes)?;
         let table = Vec::from_slice(alloc, parts.table)?;
         let code = Vec::from_slice(alloc, parts.code)?;
         let mask = Vec::from_slice(alloc, parts.mask)?;
@@ -99,6 +117,21 @@ impl Program {
             code,
             mask,
         })
+    }
+
+    /// The bytes of the blob that spells the program.
+    ///
+    /// # Errors
+    /// Want of memory.
+    pub fn spell(&self) -> Result<Vec<u8>, AllocError>
+        ensures { IfOk result (λ bytes. Spells program_blob self.now bytes.items) }
+    {
+        let mut out = Vec::new(*self.code.allocator());
+        push_natural(&mut out, self.count)?;
+        push_fixed(&mut out, 1, u64::from(self.width))?;
+        push_natural(&mut out, self.code.len() as u64)?;
+        push_lists(&mut out, &self.table, &self.code, &self.mask)?;
+        Ok(out)
     }
 
     /// The bytes of the code.
@@ -199,7 +232,7 @@ impl Program {
         ensures { result ≡ some_below (length self.now.code) (ends_before self.now place) }
     {
         match self.begun_before(place, 25) {
-            Some(n) => is_terminator(self.code[n as usize]),
+            Some(n) => ends_block(self.code[n as usize]),
             None => false,
         }
     }

@@ -1,5 +1,6 @@
 //! Blobs byte by byte, as a reader would write them out.
 use super::*;
+use pvm_isa::Op;
 use std::test::*;
 
 // No jumps of width 0, ten bytes of code, the mask: instructions begin at places 0, 3 and 8.
@@ -67,23 +68,53 @@ fn a_jump_table_is_read(rt: HostRuntime) -> Result<(), Fail> {
 }
 
 #[test]
-fn no_other_bytes_are_a_program(rt: HostRuntime) {
+fn other_bytes_are_refused_where_a_field_does_not_spell(rt: HostRuntime) {
     let mut spare = BLOB;
     spare[14] = 0x05;
     let mut longer = [0; 16];
     longer[..15].copy_from_slice(&BLOB);
-    let table: [&[u8]; 6] = [
-        &[],
-        &spare,
-        &BLOB[..14],
-        &longer,
-        &[0x00, 0x09, 0x00],
+    let table: [(&[u8], u64); 12] = [
+        (&[], 0),
+        (&[0x80], 0),
+        (&[0x00], 1),
+        (&[0x00, 0x09, 0x00], 1),
+        (&[0x00, 0x00], 2),
+        (&[0x00, 0x00, 0x05, 0x01, 0x02], 3),
+        (&spare, 13),
+        (&BLOB[..14], 13),
+        (&longer, 15),
+        // Of two jumps of four bytes the second is not whole.
+        (&[0x02, 0x04, 0x00, 0x01, 0x00, 0x00, 0x00, 0x02, 0x00], 7),
+        (&[0x01, 0x04, 0x00, 0x01, 0x00, 0x00, 0x00, 0x02, 0x00], 7),
+        (
+            &[
+                0xff, 0xff, 0xff, 0xff, 0xff, 0xff, 0xff, 0xff, 0xff, 0x08, 0x00,
+            ],
+            11,
+        ),
+    ];
+    for (bytes, place) in table {
+        let refusal = Program::deblob(rt.alloc(), bytes).err();
+        assert_eq!(rt; refusal, Some(ProgramRefusal::NotProgram { place }));
+    }
+}
+
+#[test]
+fn a_program_is_spelled_by_its_blob(rt: HostRuntime) -> Result<(), Fail> {
+    let table: [&[u8]; 4] = [
+        &[0x00, 0x08, 0x00],
+        &BLOB,
         &[
-            0xff, 0xff, 0xff, 0xff, 0xff, 0xff, 0xff, 0xff, 0xff, 0x08, 0x00,
+            0x02, 0x02, 0x06, 0x05, 0x00, 0xff, 0xff, 0x33, 0x01, 0x02, 0x32, 0x01, 0x00, 0x29,
+        ],
+        &[
+            0xff, 0xff, 0xff, 0xff, 0xff, 0xff, 0xff, 0xff, 0xff, 0x00, 0x00,
         ],
     ];
     for bytes in table {
-        let refusal = Program::deblob(rt.alloc(), bytes).err();
-        assert!(rt; refusal == Some(ProgramRefusal::NotProgram { place: 0 }));
+        let program = Program::deblob(rt.alloc(), bytes).ok().ok_or("a blob")?;
+        let spelled = program.spell()?;
+        assert!(rt; spelled.as_slice() == bytes);
     }
+    Ok(())
 }

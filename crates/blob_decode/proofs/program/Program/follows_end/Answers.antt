@@ -1,7 +1,6 @@
 use Rattle.std.proofs.Common.{◌≡◌, ap, sym, ◌∙◌, arith, ◌<◌, length, ℕ}
 use Rattle.std.proofs.lemmas.List.{get_or_read}
-use Rattle.blob_decode.specs.Opcodes.{is_terminator}
-use Rattle.blob_decode.specs.Program.{Program, code_byte}
+use Rattle.blob_decode.specs.Program.{Program, code_byte, ends_block}
 use Rattle.blob_decode.proofs.Starts.{IsNearest, ended-nearest, ended-none}
 use Rattle.blob_decode.proofs.program.Program.follows_end.Goals as goal
 
@@ -17,7 +16,7 @@ returns-in-Some c =
     let same : c.self.inside.code.items ≡ c.args.self.now.code = ap (λ (p : Program). p.code) c.self.view_is in
     let inside : c.in-Some.n < length c.self.inside.code.items = omega (arith, within, ap (length {A = ℕ}) same) in
     let byte : c.index.result.now ≡ code_byte c.args.self.now c.in-Some.n = get_or_read c.self.inside.code.items c.in-Some.n c.index.result.now inside c.index.ensures 0 ∙ ap (λ p. code_byte p c.in-Some.n) c.self.view_is in
-    c.is_terminator.ensures ∙ ap is_terminator byte ∙ sym (ended-nearest c.args.self.now c.args.place c.in-Some.n nearest within c.requires.begins)
+    c.ends_block.ensures ∙ ap ends_block byte ∙ sym (ended-nearest c.args.self.now c.args.place c.in-Some.n nearest within c.requires.begins)
 
 pub returns-in-None : goal.returns-in-None
 returns-in-None c = sym (ended-none c.args.self.now c.args.place c.in-None.ensures.none)

@@ -1,0 +1,4 @@
+pub mod Lookups
+pub mod Table
+pub mod Numbers
+pub mod Registers
