@@ -1,5 +1,5 @@
 -- Rotations: what the code's `rotate_right` and `rotate_left` join by their bits are the two parts of a turned number, at each width.
-use Rattle.std.proofs.Common.{◌≡◌, ℕ, ◌+◌, ◌-◌, ◌*◌, ◌/◌, ◌%◌, ◌^◌, ◌<◌, sym, ap, ◌∙◌, subst, arith, bit_or, ◌⊎◌, inl, inr}
+use Rattle.std.proofs.Common.{◌≡◌, ℕ, ◌+◌, ◌-◌, ◌*◌, ◌/◌, ◌%◌, ◌^◌, ◌<◌, sym, ap, ◌∙◌, subst, arith, bit_or, inl, inr}
 use Rattle.std.specs.Int.{Width, rotate_left, rotate_right}
 use Rattle.std.specs.Int.Bits.{or_self}
 use mir.Val.{bits}
@@ -36,27 +36,27 @@ unturned w x fits =
 left_turn : (w x k : ℕ) → k < w → x < 2 ^ w → bit_or (x * 2 ^ k % 2 ^ w) (x / 2 ^ ((w - k) % w)) ≡ turned_left w x k
 left_turn w x k within fits = elim (cases_lt 0 k) [
   | inl some ↦
-    let less : w - k < w = omega arith in
-    rw (mod-eq_of_lt less) (joined w x (w - k) k (omega arith) fits)
+      let less : w - k < w = omega arith in
+      rw (mod-eq_of_lt less) (joined w x (w - k) k (omega arith) fits)
   | inr none ↦
-    let e : k ≡ 0 = omega arith in
-    let back : (w - 0) % w ≡ 0 = ap (λ i. i % w) (omega arith) ∙ mod_self w in
-    let wide : w - 0 ≡ w = omega arith in
-    let whole : x % 2 ^ (w - 0) * 2 ^ 0 + x / 2 ^ (w - 0) ≡ x = rw (wide, mod-eq_of_lt fits, div-eq_of_lt fits) (omega arith) in
-    rw (e, back) (unturned w x fits ∙ sym whole)
+      let e : k ≡ 0 = omega arith in
+      let back : (w - 0) % w ≡ 0 = ap (λ i. i % w) (omega arith) ∙ mod_self w in
+      let wide : w - 0 ≡ w = omega arith in
+      let whole : x % 2 ^ (w - 0) * 2 ^ 0 + x / 2 ^ (w - 0) ≡ x = rw (wide, mod-eq_of_lt fits, div-eq_of_lt fits) (omega arith) in
+      rw (e, back) (unturned w x fits ∙ sym whole)
 ]
 
 right_turn : (w x k : ℕ) → k < w → x < 2 ^ w → bit_or (x / 2 ^ k) (x * 2 ^ ((w - k) % w) % 2 ^ w) ≡ turned_right w x k
 right_turn w x k within fits = or_comm (x / 2 ^ k) (x * 2 ^ ((w - k) % w) % 2 ^ w) ∙ elim (cases_lt 0 k) [
   | inl some ↦
-    let less : w - k < w = omega arith in
-    rw (mod-eq_of_lt less) (joined w x k (w - k) (omega arith) fits ∙ omega arith)
+      let less : w - k < w = omega arith in
+      rw (mod-eq_of_lt less) (joined w x k (w - k) (omega arith) fits ∙ omega arith)
   | inr none ↦
-    let e : k ≡ 0 = omega arith in
-    let back : (w - 0) % w ≡ 0 = ap (λ i. i % w) (omega arith) ∙ mod_self w in
-    let whole : x / 2 ^ 0 ≡ x = div-one x in
-    let nothing : x % 2 ^ 0 ≡ 0 = mod-one x in
-    rw (e, back) (unturned w x fits ∙ rw (whole, nothing) (omega arith))
+      let e : k ≡ 0 = omega arith in
+      let back : (w - 0) % w ≡ 0 = ap (λ i. i % w) (omega arith) ∙ mod_self w in
+      let whole : x / 2 ^ 0 ≡ x = div-one x in
+      let nothing : x % 2 ^ 0 ≡ 0 = mod-one x in
+      rw (e, back) (unturned w x fits ∙ rw (whole, nothing) (omega arith))
 ]
 
 pub rotate_right-turned : (w : Width) (x k : ℕ) → k < bits w → x < 2 ^ bits w → rotate_right w x k ≡ turned_right (bits w) x k

@@ -1,12 +1,12 @@
 -- The values of the operations: what an opcode makes of the numbers in its registers (Gray Paper 0.7.0, appendix A).
 -- There is one line for each operation. a is the first register and b the second; where an opcode has an immediate, it is x.
-use Rattle.std.specs.Prelude.{ℕ, ◌+◌, ◌-◌, ◌*◌, ◌/◌, ◌%◌, ◌^◌, ◌==◌, nat_lt, nat_le, min, max, Bool, false, not, if◌then◌else◌, pos, ◌*ℤ◌, int_lt, int_le, int_div, int_rem, bit_and, bit_or, bit_xor, Option, Some, None, is_some}
+use Rattle.std.specs.Prelude.{ℕ, ◌+◌, ◌*◌, ◌%◌, ◌^◌, ◌==◌, nat_lt, nat_le, min, max, Bool, false, not, if◌then◌else◌, pos, ◌*ℤ◌, int_lt, int_le, bit_and, bit_or, bit_xor, Option, Some, None, is_some}
 use Rattle.std.specs.Option.{option_map_or}
 use Rattle.std.specs.Int.{w32, w64, leading_zeros, trailing_zeros, swap_bytes}
 use Rattle.std.specs.Int.RustNames.{count_ones}
 use Rattle.pvm_isa.specs.declared.op.Op.{Op}
 use Rattle.pvm_isa.specs.declared.op.Op.TheVariants.{LoadU8, LoadI8, LoadU16, LoadI16, LoadU32, LoadI32, LoadU64, BranchEqImm, BranchNeImm, BranchLtUImm, BranchLeUImm, BranchGeUImm, BranchGtUImm, BranchLtSImm, BranchLeSImm, BranchGeSImm, BranchGtSImm, CountSetBits64, CountSetBits32, LeadingZeroBits64, LeadingZeroBits32, TrailingZeroBits64, TrailingZeroBits32, SignExtend8, SignExtend16, ZeroExtend16, ReverseBytes, LoadIndU8, LoadIndI8, LoadIndU16, LoadIndI16, LoadIndU32, LoadIndI32, LoadIndU64, AddImm32, AndImm, XorImm, OrImm, MulImm32, SetLtUImm, SetLtSImm, ShloLImm32, ShloRImm32, SharRImm32, NegAddImm32, SetGtUImm, SetGtSImm, ShloLImmAlt32, ShloRImmAlt32, SharRImmAlt32, AddImm64, MulImm64, ShloLImm64, ShloRImm64, SharRImm64, NegAddImm64, ShloLImmAlt64, ShloRImmAlt64, SharRImmAlt64, RotR64Imm, RotR64ImmAlt, RotR32Imm, RotR32ImmAlt, BranchEq, BranchNe, BranchLtU, BranchLtS, BranchGeU, BranchGeS, Add32, Sub32, Mul32, DivU32, DivS32, RemU32, RemS32, ShloL32, ShloR32, SharR32, Add64, Sub64, Mul64, DivU64, DivS64, RemU64, RemS64, ShloL64, ShloR64, SharR64, And, Xor, Or, MulUpperSS, MulUpperUU, MulUpperSU, SetLtU, SetLtS, RotL64, RotL32, RotR64, RotR32, AndInv, OrInv, Xnor, Max, MaxU, Min, MinU}
-use Rattle.pvm_alu.specs.Words.{low_32, extended, extended_32, signed_64, signed_32, modulo_64, difference, all_ones, inverted, shifted_left, shifted_right, shifted_right_signed, turned_right, turned_left, upper_half, one_where}
+use Rattle.pvm_alu.specs.Words.{low_32, extended, extended_32, signed_64, signed_32, difference, quotient, remainder, signed_quotient, signed_remainder, inverted, shifted_left, shifted_right, shifted_right_signed, turned_right, turned_left, upper_half, one_where}
 
 -- operations with two values
 unfoldable pub binary_line : Op → Option (ℕ → ℕ → ℕ)
@@ -19,13 +19,13 @@ binary_line SetLtUImm = Some (λ a x. one_where (nat_lt a x))
 binary_line SetLtSImm = Some (λ a x. one_where (int_lt (signed_64 a) (signed_64 x)))
 binary_line ShloLImm32 = Some (λ a x. extended_32 (shifted_left (low_32 a) (x % 32)))
 binary_line ShloRImm32 = Some (λ a x. extended_32 (shifted_right (low_32 a) (x % 32)))
-binary_line SharRImm32 = Some (λ a x. shifted_right_signed (signed_32 a) (x % 32))
+binary_line SharRImm32 = Some (λ a x. extended_32 (shifted_right_signed (signed_32 a) (x % 32)))
 binary_line NegAddImm32 = Some (λ a x. extended_32 (difference x a))
 binary_line SetGtUImm = Some (λ a x. one_where (nat_lt x a))
 binary_line SetGtSImm = Some (λ a x. one_where (int_lt (signed_64 x) (signed_64 a)))
 binary_line ShloLImmAlt32 = Some (λ a x. extended_32 (shifted_left (low_32 x) (a % 32)))
 binary_line ShloRImmAlt32 = Some (λ a x. extended_32 (shifted_right (low_32 x) (a % 32)))
-binary_line SharRImmAlt32 = Some (λ a x. shifted_right_signed (signed_32 x) (a % 32))
+binary_line SharRImmAlt32 = Some (λ a x. extended_32 (shifted_right_signed (signed_32 x) (a % 32)))
 binary_line AddImm64 = Some (λ a x. (a + x) % 2 ^ 64)
 binary_line MulImm64 = Some (λ a x. a * x % 2 ^ 64)
 binary_line ShloLImm64 = Some (λ a x. shifted_left a (x % 64) % 2 ^ 64)
@@ -42,20 +42,20 @@ binary_line RotR32ImmAlt = Some (λ a x. extended_32 (turned_right 32 (low_32 x)
 binary_line Add32 = Some (λ a b. extended_32 (a + b))
 binary_line Sub32 = Some (λ a b. extended_32 (difference a b))
 binary_line Mul32 = Some (λ a b. extended_32 (a * b))
-binary_line DivU32 = Some (λ a b. if low_32 b == 0 then all_ones else extended_32 (low_32 a / low_32 b))
-binary_line DivS32 = Some (λ a b. if low_32 b == 0 then all_ones else extended_32 (modulo_64 (int_div (signed_32 a) (signed_32 b))))
-binary_line RemU32 = Some (λ a b. if low_32 b == 0 then extended_32 a else extended_32 (low_32 a % low_32 b))
-binary_line RemS32 = Some (λ a b. if low_32 b == 0 then extended_32 a else modulo_64 (int_rem (signed_32 a) (signed_32 b)))
+binary_line DivU32 = Some (λ a b. extended_32 (quotient (low_32 a) (low_32 b)))
+binary_line DivS32 = Some (λ a b. extended_32 (signed_quotient (signed_32 a) (signed_32 b)))
+binary_line RemU32 = Some (λ a b. extended_32 (remainder (low_32 a) (low_32 b)))
+binary_line RemS32 = Some (λ a b. extended_32 (signed_remainder (signed_32 a) (signed_32 b)))
 binary_line ShloL32 = Some (λ a b. extended_32 (shifted_left (low_32 a) (b % 32)))
 binary_line ShloR32 = Some (λ a b. extended_32 (shifted_right (low_32 a) (b % 32)))
-binary_line SharR32 = Some (λ a b. shifted_right_signed (signed_32 a) (b % 32))
+binary_line SharR32 = Some (λ a b. extended_32 (shifted_right_signed (signed_32 a) (b % 32)))
 binary_line Add64 = Some (λ a b. (a + b) % 2 ^ 64)
 binary_line Sub64 = Some (λ a b. difference a b)
 binary_line Mul64 = Some (λ a b. a * b % 2 ^ 64)
-binary_line DivU64 = Some (λ a b. if b == 0 then all_ones else a / b)
-binary_line DivS64 = Some (λ a b. if b == 0 then all_ones else modulo_64 (int_div (signed_64 a) (signed_64 b)))
-binary_line RemU64 = Some (λ a b. if b == 0 then a else a % b)
-binary_line RemS64 = Some (λ a b. if b == 0 then a else modulo_64 (int_rem (signed_64 a) (signed_64 b)))
+binary_line DivU64 = Some (λ a b. quotient a b)
+binary_line DivS64 = Some (λ a b. signed_quotient (signed_64 a) (signed_64 b))
+binary_line RemU64 = Some (λ a b. remainder a b)
+binary_line RemS64 = Some (λ a b. signed_remainder (signed_64 a) (signed_64 b))
 binary_line ShloL64 = Some (λ a b. shifted_left a (b % 64) % 2 ^ 64)
 binary_line ShloR64 = Some (λ a b. shifted_right a (b % 64))
 binary_line SharR64 = Some (λ a b. shifted_right_signed (signed_64 a) (b % 64))

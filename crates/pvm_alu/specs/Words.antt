@@ -1,5 +1,5 @@
 -- The words of fixed-width arithmetic, on whole numbers (Gray Paper 0.7.0, appendix A; the names are this project's own).
-use Rattle.std.specs.Prelude.{ℕ, ◌+◌, ◌-◌, ◌*◌, ◌/◌, ◌%◌, ◌^◌, Bool, nat_lt, if◌then◌else◌, ℤ, pos, unsigned_abs}
+use Rattle.std.specs.Prelude.{ℕ, ◌+◌, ◌-◌, ◌*◌, ◌/◌, ◌%◌, ◌^◌, Bool, nat_lt, ◌==◌, if◌then◌else◌, ℤ, pos, unsigned_abs, int_div, int_rem}
 use Rattle.std.specs.Int.{w32, w64, cast_signed, int_div_euclid, int_rem_euclid}
 
 -- the lowest 32 bits
@@ -30,9 +30,21 @@ modulo_64 z = unsigned_abs (int_rem_euclid z (pos (2 ^ 64)))
 abbrev pub difference : ℕ → ℕ → ℕ
 difference a b = (a + (2 ^ 64 - b)) % 2 ^ 64
 
--- the largest number of 64 bits: the quotient by 0
-abbrev pub all_ones : ℕ
-all_ones = 2 ^ 64 - 1
+-- rounded down; by 0 it is the largest number of 64 bits
+abbrev pub quotient : ℕ → ℕ → ℕ
+quotient a b = if b == 0 then 2 ^ 64 - 1 else a / b
+
+-- by 0 it is the dividend
+abbrev pub remainder : ℕ → ℕ → ℕ
+remainder a b = if b == 0 then a else a % b
+
+-- of signed numbers, rounded toward zero; by 0 it is the largest number of 64 bits
+abbrev pub signed_quotient : ℤ → ℤ → ℕ
+signed_quotient x y = if unsigned_abs y == 0 then 2 ^ 64 - 1 else modulo_64 (int_div x y)
+
+-- with the sign of the dividend; by 0 it is the dividend
+abbrev pub signed_remainder : ℤ → ℤ → ℕ
+signed_remainder x y = modulo_64 (if unsigned_abs y == 0 then x else int_rem x y)
 
 -- the other bit at each of 64 places
 abbrev pub inverted : ℕ → ℕ

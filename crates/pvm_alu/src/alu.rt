@@ -2,13 +2,21 @@
 ghost use Rattle.std.specs.Prelude.{◌≡◌, ◌*◌, ◌^◌, ◌<◌, IsTrue};
 ghost use Rattle.pvm_alu.specs.Alu as alu;
 
-use pvm_isa::Op;
-
-use crate::arithmetic::{add_32, add_64, div_s_32, div_s_64, div_u_32, div_u_64, mul_32, mul_64, mul_upper_s_s, mul_upper_s_u, mul_upper_u_u, rem_s_32, rem_s_64, rem_u_32, rem_u_64, sub_32, sub_64};
-use crate::bits::{and_inv, less_signed, max_signed, min_signed, one_where, or_inv, xnor};
-use crate::bits::{count_set_bits_32, count_set_bits_64, leading_zero_bits_32, leading_zero_bits_64, trailing_zero_bits_32, trailing_zero_bits_64};
-use crate::shifts::{rot_l_32, rot_l_64, rot_r_32, rot_r_64, shar_r_32, shar_r_64, shlo_l_32, shlo_l_64, shlo_r_32, shlo_r_64};
+use crate::arithmetic::{
+    add_32, add_64, div_s_32, div_s_64, div_u_32, div_u_64, mul_32, mul_64, mul_upper_s_s,
+    mul_upper_s_u, mul_upper_u_u, rem_s_32, rem_s_64, rem_u_32, rem_u_64, sub_32, sub_64,
+};
+use crate::bits::{
+    and_inv, count_set_bits_32, count_set_bits_64, leading_zero_bits_32, leading_zero_bits_64,
+    less_signed, max_signed, min_signed, one_where, or_inv, trailing_zero_bits_32,
+    trailing_zero_bits_64, xnor,
+};
+use crate::shifts::{
+    rot_l_32, rot_l_64, rot_r_32, rot_r_64, shar_r_32, shar_r_64, shlo_l_32, shlo_l_64, shlo_r_32,
+    shlo_r_64,
+};
 use crate::words::{extended_8, extended_16, extended_32};
+use pvm_isa::Op;
 
 /// The value of an operation with two values: registers A and B, or register B and the immediate.
 #[inline]

@@ -48,7 +48,7 @@ pub fn mul_64(a: u64, b: u64) -> u64
 
 #[inline]
 pub fn div_u_32(a: u64, b: u64) -> u64
-    ensures { result ≡ (if words.low_32 b == 0 then words.all_ones else words.extended_32 (words.low_32 a / words.low_32 b)) }
+    ensures { result ≡ words.extended_32 (words.quotient (words.low_32 a) (words.low_32 b)) }
 {
     let divisor = low_32(b);
     if divisor == 0 {
@@ -60,7 +60,7 @@ pub fn div_u_32(a: u64, b: u64) -> u64
 
 #[inline]
 pub fn rem_u_32(a: u64, b: u64) -> u64
-    ensures { result ≡ (if words.low_32 b == 0 then words.extended_32 a else words.extended_32 (words.low_32 a % words.low_32 b)) }
+    ensures { result ≡ words.extended_32 (words.remainder (words.low_32 a) (words.low_32 b)) }
 {
     let divisor = low_32(b);
     if divisor == 0 {
@@ -89,7 +89,7 @@ fn remainder_32(x: i32, y: i32) -> u64
 
 #[inline]
 pub fn div_s_32(a: u64, b: u64) -> u64
-    ensures { result ≡ (if words.low_32 b == 0 then words.all_ones else words.extended_32 (words.modulo_64 (int_div (words.signed_32 a) (words.signed_32 b)))) }
+    ensures { result ≡ words.extended_32 (words.signed_quotient (words.signed_32 a) (words.signed_32 b)) }
 {
     let divisor = signed_32(b);
     if divisor == 0 {
@@ -101,7 +101,7 @@ pub fn div_s_32(a: u64, b: u64) -> u64
 
 #[inline]
 pub fn rem_s_32(a: u64, b: u64) -> u64
-    ensures { result ≡ (if words.low_32 b == 0 then words.extended_32 a else words.modulo_64 (int_rem (words.signed_32 a) (words.signed_32 b))) }
+    ensures { result ≡ words.extended_32 (words.signed_remainder (words.signed_32 a) (words.signed_32 b)) }
 {
     let divisor = signed_32(b);
     if divisor == 0 {
@@ -113,37 +113,41 @@ pub fn rem_s_32(a: u64, b: u64) -> u64
 
 #[inline]
 pub fn div_u_64(a: u64, b: u64) -> u64
-    ensures { result ≡ (if b == 0 then words.all_ones else a / b) }
+    ensures { result ≡ words.quotient a b }
 {
     if b == 0 { u64::MAX } else { a / b }
 }
 
 #[inline]
 pub fn rem_u_64(a: u64, b: u64) -> u64
-    ensures { result ≡ (if b == 0 then a else a % b) }
+    ensures { result ≡ words.remainder a b }
 {
     if b == 0 { a } else { a % b }
 }
 
 #[inline]
 pub fn div_s_64(a: u64, b: u64) -> u64
-    ensures { result ≡ (if b == 0 then words.all_ones else words.modulo_64 (int_div (words.signed_64 a) (words.signed_64 b))) }
+    ensures { result ≡ words.signed_quotient (words.signed_64 a) (words.signed_64 b) }
 {
     if b == 0 {
         u64::MAX
     } else {
-        a.cast_signed().wrapping_div(b.cast_signed()).cast_unsigned()
+        a.cast_signed()
+            .wrapping_div(b.cast_signed())
+            .cast_unsigned()
     }
 }
 
 #[inline]
 pub fn rem_s_64(a: u64, b: u64) -> u64
-    ensures { result ≡ (if b == 0 then a else words.modulo_64 (int_rem (words.signed_64 a) (words.signed_64 b))) }
+    ensures { result ≡ words.signed_remainder (words.signed_64 a) (words.signed_64 b) }
 {
     if b == 0 {
         a
     } else {
-        a.cast_signed().wrapping_rem(b.cast_signed()).cast_unsigned()
+        a.cast_signed()
+            .wrapping_rem(b.cast_signed())
+            .cast_unsigned()
     }
 }
 

@@ -8,3 +8,6 @@ mod shifts;
 mod words;
 
 pub use alu::{binary, test, unary, widen};
+
+#[cfg(test)]
+mod tests;

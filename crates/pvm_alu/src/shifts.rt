@@ -20,7 +20,7 @@ pub fn shlo_r_32(a: u64, b: u64) -> u64
 
 #[inline]
 pub fn shar_r_32(a: u64, b: u64) -> u64
-    ensures { result ≡ words.shifted_right_signed (words.signed_32 a) (b % 32) }
+    ensures { result ≡ words.extended_32 (words.shifted_right_signed (words.signed_32 a) (b % 32)) }
 {
     i64::from(signed_32(a) >> (b % 32)).cast_unsigned()
 }
