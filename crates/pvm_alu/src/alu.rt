@@ -18,7 +18,8 @@ use crate::shifts::{
 use crate::words::{extended_8, extended_16, extended_32};
 use pvm_isa::Op;
 
-/// The value of an operation with two values: registers A and B, or register B and the immediate.
+/// The value of an operation with two values: opcodes 131 to 146, 149 to 161, 190 to 217 and 220 to 230. They are
+/// those of registers A and B, or where the opcode has an immediate, that of register B and the immediate.
 #[inline]
 #[tactic(auto, unfolding(crate::specs::Alu::binary_line))]
 pub fn binary(op: Op, a: u64, b: u64) -> u64
@@ -81,7 +82,7 @@ pub fn binary(op: Op, a: u64, b: u64) -> u64
     }
 }
 
-/// The value of an operation with one value.
+/// The value of an operation with one value, that of register A: opcodes 102 to 111.
 #[inline]
 #[tactic(auto, unfolding(crate::specs::Alu::unary_line))]
 pub fn unary(op: Op, a: u64) -> u64
@@ -103,7 +104,8 @@ pub fn unary(op: Op, a: u64) -> u64
     }
 }
 
-/// Whether the condition of a branch holds.
+/// Whether the condition of a branch holds: opcodes 170 to 175 for registers A and B, and 81 to 90 for register A
+/// and the immediate.
 #[inline]
 #[tactic(auto, unfolding(crate::specs::Alu::test_line))]
 pub fn test(op: Op, a: u64, b: u64) -> bool
@@ -125,7 +127,8 @@ pub fn test(op: Op, a: u64, b: u64) -> bool
     }
 }
 
-/// What a load puts into its register, of the number that its bytes make.
+/// What a load puts into its register, of the number that the bytes make which it read: opcodes 52 to 58 and
+/// 124 to 130.
 #[inline]
 #[tactic(auto, unfolding(crate::specs::Alu::widen_line, crate::specs::Alu::loaded_bytes))]
 pub fn widen(op: Op, raw: u64) -> u64
