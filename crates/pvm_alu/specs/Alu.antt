@@ -1,5 +1,6 @@
 -- The values of the operations: what an opcode makes of the numbers in its registers (Gray Paper 0.7.0, appendix A).
--- There is one line for each operation. a is the first register and b the second; where an opcode has an immediate, it is x.
+-- There is one line for each operation. a and b are the values of registers A and B. Where there is an immediate it is x,
+-- and then a is the value of register B, or in a branch of register A.
 use Rattle.std.specs.Prelude.{ℕ, ◌+◌, ◌*◌, ◌%◌, ◌^◌, ◌==◌, nat_lt, nat_le, min, max, Bool, false, not, if◌then◌else◌, pos, ◌*ℤ◌, int_lt, int_le, bit_and, bit_or, bit_xor, Option, Some, None, is_some}
 use Rattle.std.specs.Option.{option_map_or}
 use Rattle.std.specs.Int.{w32, w64, leading_zeros, trailing_zeros, swap_bytes}
@@ -8,7 +9,7 @@ use Rattle.pvm_isa.specs.declared.op.Op.{Op}
 use Rattle.pvm_isa.specs.declared.op.Op.TheVariants.{LoadU8, LoadI8, LoadU16, LoadI16, LoadU32, LoadI32, LoadU64, BranchEqImm, BranchNeImm, BranchLtUImm, BranchLeUImm, BranchGeUImm, BranchGtUImm, BranchLtSImm, BranchLeSImm, BranchGeSImm, BranchGtSImm, CountSetBits64, CountSetBits32, LeadingZeroBits64, LeadingZeroBits32, TrailingZeroBits64, TrailingZeroBits32, SignExtend8, SignExtend16, ZeroExtend16, ReverseBytes, LoadIndU8, LoadIndI8, LoadIndU16, LoadIndI16, LoadIndU32, LoadIndI32, LoadIndU64, AddImm32, AndImm, XorImm, OrImm, MulImm32, SetLtUImm, SetLtSImm, ShloLImm32, ShloRImm32, SharRImm32, NegAddImm32, SetGtUImm, SetGtSImm, ShloLImmAlt32, ShloRImmAlt32, SharRImmAlt32, AddImm64, MulImm64, ShloLImm64, ShloRImm64, SharRImm64, NegAddImm64, ShloLImmAlt64, ShloRImmAlt64, SharRImmAlt64, RotR64Imm, RotR64ImmAlt, RotR32Imm, RotR32ImmAlt, BranchEq, BranchNe, BranchLtU, BranchLtS, BranchGeU, BranchGeS, Add32, Sub32, Mul32, DivU32, DivS32, RemU32, RemS32, ShloL32, ShloR32, SharR32, Add64, Sub64, Mul64, DivU64, DivS64, RemU64, RemS64, ShloL64, ShloR64, SharR64, And, Xor, Or, MulUpperSS, MulUpperUU, MulUpperSU, SetLtU, SetLtS, RotL64, RotL32, RotR64, RotR32, AndInv, OrInv, Xnor, Max, MaxU, Min, MinU}
 use Rattle.pvm_alu.specs.Words.{low_32, extended, extended_32, signed_64, signed_32, difference, quotient, remainder, signed_quotient, signed_remainder, inverted, shifted_left, shifted_right, shifted_right_signed, turned_right, turned_left, upper_half, one_where}
 
--- operations with two values
+-- operations with two values: opcodes 131 to 146, 149 to 161, 190 to 217 and 220 to 230
 unfoldable pub binary_line : Op → Option (ℕ → ℕ → ℕ)
 binary_line AddImm32 = Some (λ a x. extended_32 (a + x))
 binary_line AndImm = Some (λ a x. bit_and a x)
@@ -80,7 +81,7 @@ binary_line Min = Some (λ a b. if int_lt (signed_64 a) (signed_64 b) then a els
 binary_line MinU = Some (λ a b. min a b)
 binary_line _ = None
 
--- operations with one value
+-- operations with one value: opcodes 102 to 111
 unfoldable pub unary_line : Op → Option (ℕ → ℕ)
 unary_line CountSetBits64 = Some (λ a. count_ones a)
 unary_line CountSetBits32 = Some (λ a. count_ones (low_32 a))
@@ -94,7 +95,7 @@ unary_line ZeroExtend16 = Some (λ a. a % 2 ^ 16)
 unary_line ReverseBytes = Some (λ a. swap_bytes w64 a)
 unary_line _ = None
 
--- conditions of branches
+-- conditions of branches: opcodes 81 to 90 and 170 to 175
 unfoldable pub test_line : Op → Option (ℕ → ℕ → Bool)
 test_line BranchEqImm = Some (λ a x. a == x)
 test_line BranchNeImm = Some (λ a x. not (a == x))
@@ -114,7 +115,7 @@ test_line BranchGeU = Some (λ a b. nat_le b a)
 test_line BranchGeS = Some (λ a b. int_le (signed_64 b) (signed_64 a))
 test_line _ = None
 
--- how many bytes a load reads
+-- how many bytes a load reads: opcodes 52 to 58 and 124 to 130
 unfoldable pub loaded_bytes : Op → ℕ
 loaded_bytes LoadU8 = 1
 loaded_bytes LoadI8 = 1
@@ -132,7 +133,7 @@ loaded_bytes LoadIndI32 = 4
 loaded_bytes LoadIndU64 = 8
 loaded_bytes _ = 0
 
--- what a load puts into its register, of the number that the bytes make
+-- what a load puts into its register, of the number that those bytes make
 unfoldable pub widen_line : Op → Option (ℕ → ℕ)
 widen_line LoadU8 = Some (λ raw. raw)
 widen_line LoadI8 = Some (λ raw. extended 8 raw)
@@ -162,7 +163,7 @@ is_test op = is_some (test_line op)
 abbrev pub is_load : Op → Bool
 is_load op = is_some (widen_line op)
 
--- the value of an operation, by its line
+-- the value of an operation, by its line; where there is none it says nothing
 abbrev pub binary : Op → ℕ → ℕ → ℕ
 binary op a b = option_map_or (λ line. line a b) (binary_line op) 0
 

@@ -70,7 +70,7 @@ pub fn rem_u_32(a: u64, b: u64) -> u64
     }
 }
 
-/// The quotient of numbers of 32 bits; as one of 64 bits it always fits.
+// In 64 bits, since that of the least number by -1 has no place in 32.
 #[inline]
 fn quotient_32(x: i32, y: i32) -> u64
     requires { y ≢ pos 0 }

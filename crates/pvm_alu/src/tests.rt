@@ -58,143 +58,113 @@ fn widens(rt: &impl Abort, op: Op, rows: &[(u64, u64)])
 #[test]
 #[tactic(auto, unfolding(crate::specs::Alu::unary_line))]
 fn counts_of_bits(rt: HostRuntime) {
-    makes(
-        &rt,
-        Op::CountSetBits64,
-        &[
-            (0, 0),
-            (1, 1),
-            (0x8000_0000, 1),
-            (0xffff_ffff, 32),
-            (0x1_0000_0000, 1),
-            (LEAST, 1),
-            (u64::MAX, 64),
-            (0x1_2300_0045_6000, 9),
-        ],
-    );
-    makes(
-        &rt,
-        Op::CountSetBits32,
-        &[
-            (0, 0),
-            (1, 1),
-            (0x8000_0000, 1),
-            (0xffff_ffff, 32),
-            (0x1_0000_0000, 0),
-            (LEAST, 0),
-            (u64::MAX, 32),
-            (0x1_2300_0045_6000, 5),
-        ],
-    );
-    makes(
-        &rt,
-        Op::LeadingZeroBits64,
-        &[
-            (0, 64),
-            (1, 63),
-            (0x8000_0000, 32),
-            (0xffff_ffff, 32),
-            (0x1_0000_0000, 31),
-            (LEAST, 0),
-            (u64::MAX, 0),
-            (0x1_2300_0045_6000, 15),
-        ],
-    );
-    makes(
-        &rt,
-        Op::LeadingZeroBits32,
-        &[
-            (0, 32),
-            (1, 31),
-            (0x8000_0000, 0),
-            (0xffff_ffff, 0),
-            (0x1_0000_0000, 32),
-            (LEAST, 32),
-            (u64::MAX, 0),
-            (0x1_2300_0045_6000, 9),
-        ],
-    );
-    makes(
-        &rt,
-        Op::TrailingZeroBits64,
-        &[
-            (0, 64),
-            (1, 0),
-            (0x8000_0000, 31),
-            (0xffff_ffff, 0),
-            (0x1_0000_0000, 32),
-            (LEAST, 63),
-            (u64::MAX, 0),
-            (0x1_2300_0045_6000, 13),
-        ],
-    );
-    makes(
-        &rt,
-        Op::TrailingZeroBits32,
-        &[
-            (0, 32),
-            (1, 0),
-            (0x8000_0000, 31),
-            (0xffff_ffff, 0),
-            (0x1_0000_0000, 32),
-            (LEAST, 32),
-            (u64::MAX, 0),
-            (0x1_2300_0045_6000, 13),
-        ],
-    );
+    let ones_of_64 = [
+        (0, 0),
+        (1, 1),
+        (0x8000_0000, 1),
+        (0xffff_ffff, 32),
+        (0x1_0000_0000, 1),
+        (LEAST, 1),
+        (u64::MAX, 64),
+        (0x1_2300_0045_6000, 9),
+    ];
+    makes(&rt, Op::CountSetBits64, &ones_of_64);
+    let ones_of_32 = [
+        (0, 0),
+        (1, 1),
+        (0x8000_0000, 1),
+        (0xffff_ffff, 32),
+        (0x1_0000_0000, 0),
+        (LEAST, 0),
+        (u64::MAX, 32),
+        (0x1_2300_0045_6000, 5),
+    ];
+    makes(&rt, Op::CountSetBits32, &ones_of_32);
+    let leading_of_64 = [
+        (0, 64),
+        (1, 63),
+        (0x8000_0000, 32),
+        (0xffff_ffff, 32),
+        (0x1_0000_0000, 31),
+        (LEAST, 0),
+        (u64::MAX, 0),
+        (0x1_2300_0045_6000, 15),
+    ];
+    makes(&rt, Op::LeadingZeroBits64, &leading_of_64);
+    let leading_of_32 = [
+        (0, 32),
+        (1, 31),
+        (0x8000_0000, 0),
+        (0xffff_ffff, 0),
+        (0x1_0000_0000, 32),
+        (LEAST, 32),
+        (u64::MAX, 0),
+        (0x1_2300_0045_6000, 9),
+    ];
+    makes(&rt, Op::LeadingZeroBits32, &leading_of_32);
+    let trailing_of_64 = [
+        (0, 64),
+        (1, 0),
+        (0x8000_0000, 31),
+        (0xffff_ffff, 0),
+        (0x1_0000_0000, 32),
+        (LEAST, 63),
+        (u64::MAX, 0),
+        (0x1_2300_0045_6000, 13),
+    ];
+    makes(&rt, Op::TrailingZeroBits64, &trailing_of_64);
+    let trailing_of_32 = [
+        (0, 32),
+        (1, 0),
+        (0x8000_0000, 31),
+        (0xffff_ffff, 0),
+        (0x1_0000_0000, 32),
+        (LEAST, 32),
+        (u64::MAX, 0),
+        (0x1_2300_0045_6000, 13),
+    ];
+    makes(&rt, Op::TrailingZeroBits32, &trailing_of_32);
 }
 
 #[test]
 #[tactic(auto, unfolding(crate::specs::Alu::unary_line))]
 fn extensions_and_reversed_bytes(rt: HostRuntime) {
-    makes(
-        &rt,
-        Op::SignExtend8,
-        &[
-            (0, 0),
-            (127, 127),
-            (128, 0xffff_ffff_ffff_ff80),
-            (255, u64::MAX),
-            (256, 0),
-            (u64::MAX, u64::MAX),
-            (0x1234_5678_9abc_de80, 0xffff_ffff_ffff_ff80),
-        ],
-    );
-    makes(
-        &rt,
-        Op::SignExtend16,
-        &[
-            (0, 0),
-            (0x7fff, 0x7fff),
-            (0x8000, 0xffff_ffff_ffff_8000),
-            (0xffff_ffff, u64::MAX),
-            (LEAST, 0),
-            (0x1234_5678_9abc_8000, 0xffff_ffff_ffff_8000),
-        ],
-    );
-    makes(
-        &rt,
-        Op::ZeroExtend16,
-        &[
-            (0, 0),
-            (0xffff, 0xffff),
-            (0x1_0000, 0),
-            (u64::MAX, 0xffff),
-            (0x1234_5678_9abc_def0, 0xdef0),
-        ],
-    );
-    makes(
-        &rt,
-        Op::ReverseBytes,
-        &[
-            (0, 0),
-            (1, 0x100_0000_0000_0000),
-            (0x8000_0000, 0x80_0000_0000),
-            (0xffff_ffff, 0xffff_ffff_0000_0000),
-            (LEAST, 128),
-            (0x102_0304_0506_0708, 0x807_0605_0403_0201),
-        ],
-    );
+    let signed_8 = [
+        (0, 0),
+        (127, 127),
+        (128, 0xffff_ffff_ffff_ff80),
+        (255, u64::MAX),
+        (256, 0),
+        (u64::MAX, u64::MAX),
+        (0x1234_5678_9abc_de80, 0xffff_ffff_ffff_ff80),
+    ];
+    makes(&rt, Op::SignExtend8, &signed_8);
+    let signed_16 = [
+        (0, 0),
+        (0x7fff, 0x7fff),
+        (0x8000, 0xffff_ffff_ffff_8000),
+        (0xffff_ffff, u64::MAX),
+        (LEAST, 0),
+        (0x1234_5678_9abc_8000, 0xffff_ffff_ffff_8000),
+    ];
+    makes(&rt, Op::SignExtend16, &signed_16);
+    let unsigned_16 = [
+        (0, 0),
+        (0xffff, 0xffff),
+        (0x1_0000, 0),
+        (u64::MAX, 0xffff),
+        (0x1234_5678_9abc_def0, 0xdef0),
+    ];
+    makes(&rt, Op::ZeroExtend16, &unsigned_16);
+    let reversed = [
+        (0, 0),
+        (1, 0x100_0000_0000_0000),
+        (0x8000_0000, 0x80_0000_0000),
+        (0xffff_ffff, 0xffff_ffff_0000_0000),
+        (LEAST, 128),
+        (0x102_0304_0506_0708, 0x807_0605_0403_0201),
+    ];
+    makes(&rt, Op::ReverseBytes, &reversed);
 }
 
 #[test]
@@ -353,8 +323,8 @@ fn loads(rt: HostRuntime) {
 #[test]
 #[tactic(auto, unfolding(crate::specs::Alu::binary_line))]
 fn corners(rt: HostRuntime) {
-    assert_eq!(rt; binary(Op::DivS64, 1 << 63, u64::MAX), 9223372036854775808);
-    assert_eq!(rt; binary(Op::RemS64, 1 << 63, u64::MAX), 0);
+    assert_eq!(rt; binary(Op::DivS64, LEAST, u64::MAX), 9223372036854775808);
+    assert_eq!(rt; binary(Op::RemS64, LEAST, u64::MAX), 0);
     assert_eq!(rt; binary(Op::DivU32, 5, 0), 18446744073709551615);
     assert_eq!(rt;
         binary(Op::MulUpperSU, u64::MAX, u64::MAX),
