@@ -163,7 +163,7 @@ is_test op = is_some (test_line op)
 abbrev pub is_load : Op → Bool
 is_load op = is_some (widen_line op)
 
--- the value of an operation, by its line; where there is none it says nothing
+-- the value of an operation by its line; 0, or false, where there is none
 abbrev pub binary : Op → ℕ → ℕ → ℕ
 binary op a b = option_map_or (λ line. line a b) (binary_line op) 0
 
