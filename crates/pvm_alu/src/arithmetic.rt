@@ -1,5 +1,5 @@
 // Sums, products, quotients and remainders.
-ghost use Rattle.std.specs.Prelude.{◌≡◌, ◌≢◌, ◌+◌, ◌*◌, ◌/◌, ◌%◌, ◌^◌, ◌==◌, if◌then◌else◌, pos, ◌*ℤ◌, int_div, int_rem};
+ghost use Rattle.std.specs.Prelude.{◌≡◌, ◌≢◌, ◌+◌, ◌*◌, ◌%◌, ◌^◌, pos, ◌*ℤ◌, int_div, int_rem};
 ghost use Rattle.pvm_alu.specs.Words.{difference, extended_32, low_32, modulo_64, quotient, remainder, signed_32, signed_64, signed_quotient, signed_remainder, upper_half};
 
 use crate::words::{extended_32, low_32, signed_32};

@@ -1,6 +1,6 @@
 // Bits, and the larger and smaller of two numbers.
-ghost use Rattle.std.specs.Prelude.{◌≡◌, ◌%◌, ◌^◌, min, max, if◌then◌else◌, int_lt, bit_and, bit_or, bit_xor};
-ghost use Rattle.std.specs.Int.{w32, w64, leading_zeros, trailing_zeros, swap_bytes};
+ghost use Rattle.std.specs.Prelude.{◌≡◌, if◌then◌else◌, int_lt, bit_and, bit_or, bit_xor};
+ghost use Rattle.std.specs.Int.{w32, w64, leading_zeros, trailing_zeros};
 ghost use Rattle.std.specs.Int.RustNames.{count_ones};
 ghost use Rattle.pvm_alu.specs.Words.{inverted, low_32, one_where, signed_64};
 
