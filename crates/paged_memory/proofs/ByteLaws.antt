@@ -1,12 +1,14 @@
 -- Accesses byte for byte.
 use Rattle.std.proofs.Common.{◌≡◌, ℕ, zero, suc, ◌+◌, ◌-◌, ◌*◌, ◌/◌, ◌%◌, ◌^◌, ◌<◌, ◌≤◌, Bool, true, false, cond, List, [], ◌∷◌, ◌++◌, map, length, take, drop, get_or, Some, None, Option, refl, sym, ap, subst, ◌∙◌, arith}
-use Rattle.std.specs.Prelude.{not, ◌&&◌}
+use Rattle.std.specs.Prelude.{not, ◌&&◌, IfOk}
 use Rattle.std.specs.FinMap as fin
 use Rattle.std.specs.List.{All}
 use Rattle.std.proofs.Math.Nat.{pow-le-pow_right}
 use Rattle.std.proofs.lemmas.List.Elements.{All-get_or}
 use Rattle.paged_memory.specs.declared.rights.Rights.{Rights}
-use Rattle.paged_memory.specs.PageMap.{Page, Memory, HasWholePages, page_of, rights, reaches, byte_in, byte, has, addresses, forbidden, lower, least, number, all_have, bytes_from}
+use Rattle.paged_memory.specs.declared.rights.Rights.TheVariants as may
+use Rattle.paged_memory.specs.declared.access.Access.{Access}
+use Rattle.paged_memory.specs.PageMap.{Page, Memory, HasWholePages, page_of, rights, reaches, byte_in, byte, has, addresses, forbidden, lower, least, number, all_have, bytes_from, unless, loaded, refusal}
 use Rattle.std.proofs.lemmas.List.{take_at, drop_at, drop-drop, append_assoc, length-take-le, length-drop}
 use borrow.Rule.Slice.PartMut.{put_mid}
 use Rattle.paged_memory.proofs.Numbers.{one_more}
@@ -169,3 +171,15 @@ read_more m a done count k x old buf piece is same room ek ex new =
     (λ j. front j ++ (middle j ++ back j))
     ∙ sym (append_assoc (bytes_from m a done) (bytes_from m (a + done) count) (drop (done + count) old))
     ∙ ap (λ (xs : List ℕ). xs ++ drop (done + count) old) (sym (bytes_from-add done m a count))
+
+unless_small : (o : Option Access) (x bound : ℕ) → x < bound → IfOk (unless o x) (λ value. value < bound)
+unless_small None x bound h = h
+unless_small (Some access) x bound h = tt
+
+pub loaded_small : (m : Memory) (a n : ℕ) → HasWholePages m → IfOk (loaded m a n) (λ value. value < 256 ^ n)
+loaded_small m a n whole = unless_small (refusal m may.Read a n) (number (map (byte m) (addresses a n))) (256 ^ n) (number_small n m a whole)
+
+pub bytes_from-empty : (m : Memory) (a : ℕ) (bs : List ℕ) → length bs ≡ 0 → bytes_from m a (length bs) ≡ bs
+unfolding bytes_from
+bytes_from-empty m a [] e = refl
+bytes_from-empty m a (b ∷ bs) e = absurd (omega arith)

@@ -40,9 +40,9 @@ unfolding addresses
 read_in_page zero m p i page g lt whole h = refl
 read_in_page (suc n) m p i page g lt whole h =
     let here : byte m ((p * 4096 + i) % 2 ^ 32) ≡ get_or page.bytes i 0 =
-        ap (byte m) (wrapped_at p i lt (omega arith)) ∙ byte_here m p i (omega arith) ∙ ap (λ o. byte_in o i) g in
+    ap (byte m) (wrapped_at p i lt (omega arith)) ∙ byte_here m p i (omega arith) ∙ ap (λ o. byte_in o i) g in
     let rest : map (byte m) (addresses (p * 4096 + i + 1) n) ≡ take n (drop (suc i) page.bytes) =
-        ap (λ (a : ℕ). map (byte m) (addresses a n)) (next p i) ∙ read_in_page n m p (suc i) page g lt whole (omega arith) in
+    ap (λ (a : ℕ). map (byte m) (addresses a n)) (next p i) ∙ read_in_page n m p (suc i) page g lt whole (omega arith) in
     let front : drop i page.bytes ≡ get_or page.bytes i 0 ∷ drop (suc i) page.bytes = drop-cons page.bytes i 0 (omega arith) in
     (λ j. here j ∷ rest j) ∙ ap (take (suc n)) (sym front)
 

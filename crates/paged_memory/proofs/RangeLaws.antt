@@ -6,9 +6,10 @@ use Rattle.std.specs.BTreeMap as tree
 use Rattle.std.specs.FinMap as fin
 use Rattle.paged_memory.specs.declared.rights.Rights.{Rights}
 use Rattle.paged_memory.specs.declared.rights.Rights.TheVariants as may
-use Rattle.paged_memory.specs.PageMap.{Page, Memory, Read, Write, rights, rights_in, reaches, blank, bytes_in, set_page, set_pages, lift_in, lift_page, lift_pages, HaveRights}
+use Rattle.paged_memory.specs.PageMap.{Page, Memory, Read, Write, rights, rights_in, reaches, HasRights, blank, bytes_in, set_page, set_pages, lift_in, lift_page, lift_pages, HaveRights}
 use Rattle.paged_memory.specs.Seen.{Frame, visible_as, visible, placed, seen, lifted_as, lifted}
-use Rattle.paged_memory.proofs.Maps.{got_some, placed_same, placed_other, inserted_other, changed}
+use Rattle.std.specs.Prelude.{IsSome, is_some}
+use Rattle.paged_memory.proofs.Maps.{shown, unseen, frame_stays, got_some, placed_same, placed_other, inserted_other, changed}
 
 -- the bytes of a frame that is seen
 held : (r : Rights) (bytes : List ℕ) → reaches (rights_in (visible_as r bytes)) may.Read ≡ true → bytes ≡ bytes_in (visible_as r bytes)
@@ -71,3 +72,30 @@ pub rights_stay : (m : Memory) (page end : ℕ) (to : Rights) (keep : Bool) → 
 rights_stay m page end to keep h q low high =
     let apart : q ≢ page = λ e. absurd (omega arith) in
     ap (λ o. reaches (rights_in o) may.Read) (other_set m page to keep q apart) ∙ h q (omega arith) high
+
+found : {A : Type 0} (o : Option A) → IsSome o → (x : A) × (o ≡ Some x)
+found None h = absurd (cc)
+found (Some x) h = (x, refl)
+
+pub set_there : (m n : BTreeMap ℕ Frame) (k : ℕ) (to : Rights) (keep : Bool) → IsSome (tree.get nat_cmp m k)
+    → ((f : Frame) → tree.get nat_cmp m k ≡ Some f → tree.Updates nat_cmp m n k (Some (record { rights = to; bytes = cond keep f.bytes blank })))
+    → (keep ≡ true → HasRights (seen m.entries) k) → seen n.entries ≡ set_page (seen m.entries) k to keep
+set_there m n k to keep is u h = let f = found (tree.get nat_cmp m k) is in set_seen m n k to keep f.0 f.1 (u f.0 f.1) h
+
+pub lift_there : (m n : BTreeMap ℕ Frame) (k : ℕ) → IsSome (tree.get nat_cmp m k) → ((f : Frame) → tree.get nat_cmp m k ≡ Some f → tree.Updates nat_cmp m n k (Some (lifted f)))
+    → seen n.entries ≡ lift_page (seen m.entries) k
+lift_there m n k is u = let f = found (tree.get nat_cmp m k) is in lift_seen m n k f.0 f.1 (u f.0 f.1)
+
+-- the frames stay where one is changed
+pub frames_stay : (m n : BTreeMap ℕ Frame) (k : ℕ) (change : Frame → Frame) → IsSome (tree.get nat_cmp m k)
+    → ((f : Frame) → tree.get nat_cmp m k ≡ Some f → tree.Updates nat_cmp m n k (Some (change f))) → (q : ℕ) → IsSome (tree.get nat_cmp m q) → IsSome (tree.get nat_cmp n q)
+frames_stay m n k change is u q h = let f = found (tree.get nat_cmp m k) is in frame_stays m n k (change f.0) (u f.0 f.1) q h
+
+none_found : {A : Type 0} (o : Option A) → is_some o ≡ false → o ≡ None
+none_found None h = refl
+none_found (Some x) h = absurd (cc)
+
+-- a new frame without rights is not seen
+pub made_unseen : (m n : BTreeMap ℕ Frame) (k : ℕ) (f : Frame) → tree.Updates nat_cmp m n k (Some f) → f ≡ record { rights = may.No; bytes = blank } → is_some (tree.get nat_cmp m k) ≡ false
+    → seen n.entries ≡ seen m.entries
+made_unseen m n k f u e h = unseen m n k (Some f) u (ap shown (none_found (tree.get nat_cmp m k) h) ∙ sym (ap visible e))

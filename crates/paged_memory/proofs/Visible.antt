@@ -67,8 +67,8 @@ load_seen m a n x f whole h r lt room is =
     let there : fin.get (seen m.entries) (page_of a) ≡ Some page = got_some m (page_of a) f (sym h) ∙ is_page f.rights f.bytes r in
     let free : refusal (seen m.entries) may.Read a n ≡ None = allowed (seen m.entries) may.Read a n (ap (λ (x : Rights). reaches x may.Read) (sym (rights_seen m (page_of a) f h)) ∙ r) lt room in
     let bytes : map (byte (seen m.entries)) (addresses a n) ≡ take n (drop (a % 4096) f.bytes) =
-        ap (λ (x : ℕ). map (byte (seen m.entries)) (addresses x n)) (sym (split_address a))
-        ∙ read_in_page n (seen m.entries) (a / 4096) (a % 4096) page there (omega arith) ((whole (page_of a) page there).1.1.0) room in
+    ap (λ (x : ℕ). map (byte (seen m.entries)) (addresses x n)) (sym (split_address a))
+    ∙ read_in_page n (seen m.entries) (a / 4096) (a % 4096) page there (omega arith) ((whole (page_of a) page there).1.1.0) room in
     sym ((λ j. unless (free j) (number (bytes j))) ∙ ap (λ (y : ℕ). Ok y) (sym is))
 
 pub read_seen : (m : BTreeMap ℕ Frame) (p i n : ℕ) (f : Frame) → HasWholePages (seen m.entries) → Some f ≡ tree.get nat_cmp m p → reaches f.rights may.Read ≡ true → i + n ≤ 4096

@@ -9,7 +9,7 @@ use Rattle.std.proofs.lemmas.List.Elements.{All-append, All-take, All-drop, All-
 use Rattle.paged_memory.specs.declared.rights.Rights.{Rights}
 use Rattle.paged_memory.specs.declared.rights.Rights.TheVariants as may
 use Rattle.paged_memory.specs.PageMap.{Right, Read, Write, Page, Memory, IsPage, HasWholePages, bytes_of, put_bytes, blank, bytes_in, set_page, lift_page, lift_in}
-use Rattle.paged_memory.specs.Seen.{placed, spliced}
+use Rattle.paged_memory.specs.Seen.{Frame, placed, spliced, seen}
 use Rattle.paged_memory.proofs.Maps.{same_or, get-placed, placed_there}
 use Rattle.paged_memory.proofs.InPage.{put_in_page, put_nowhere}
 
@@ -45,10 +45,17 @@ spliced_page : (k i : ℕ) (page : Page) (new : List ℕ) → IsPage k page → 
 spliced_page k i page new is small h =
     let size : length page.bytes ≡ 4096 = is.1.1.0 in
     let old : All (λ (b : ℕ). b < 256) page.bytes = is.1.1.1 in
-    let P : ℕ → Type 0 = λ b. b < 256 in
-    (is.0, (is.1.0, (length-spliced page.bytes i new (omega arith) ∙ size,
-    All-append P (take i page.bytes ++ new) (drop (i + length new) page.bytes)
-    (All-append P (take i page.bytes) new (All-take P i page.bytes old) small) (All-drop P (i + length new) page.bytes old))))
+    let P : ℕ → Type 0 = λ b. b < 256 in (
+      is.0,
+      (
+        is.1.0,
+        (
+          length-spliced page.bytes i new (omega arith) ∙ size,
+          All-append P (take i page.bytes ++ new) (drop (i + length new) page.bytes)
+              (All-append P (take i page.bytes) new (All-take P i page.bytes old) small) (All-drop P (i + length new) page.bytes old),
+        ),
+      ),
+    )
 
 pub whole_put : (m : Memory) (p i : ℕ) (new : List ℕ) → HasWholePages m → All (λ (b : ℕ). b < 256) new → p < 2 ^ 20 → i + length new ≤ 4096 → HasWholePages (put_bytes m (p * 4096 + i) new)
 whole_put m p i new whole small lt h = elim (fin.get m p) as (λ (o : Option Page). fin.get m p ≡ o → HasWholePages (put_bytes m (p * 4096 + i) new)) [
@@ -65,7 +72,7 @@ small_bytes (suc n) v = All-cons (λ (b : ℕ). b < 256) (v % 256) (bytes_of n (
 
 pub length-blank : length blank ≡ 4096
 unfolding blank
-length-blank = length-replicate 4096 0
+length-blank = length-replicate {A = ℕ} 4096 0
 
 small_blank : All (λ (b : ℕ). b < 256) blank
 unfolding blank
@@ -95,3 +102,11 @@ lifted_in m k (Some page) whole low high = whole
 
 pub whole_lifted : (m : Memory) (k : ℕ) → HasWholePages m → 16 ≤ k → k < 2 ^ 20 → HasWholePages (lift_page m k)
 whole_lifted m k whole low high = lifted_in m k (fin.get m k) whole low high
+
+pub seen_none : (es : List (ℕ × Frame)) → es ≡ [] → seen es ≡ fin.empty
+unfolding seen
+seen_none [] e = refl
+seen_none (x ∷ es) e = absurd (cc)
+
+pub whole_none : (es : List (ℕ × Frame)) → es ≡ [] → HasWholePages (seen es)
+whole_none es e = subst HasWholePages (sym (seen_none es e)) whole_empty

@@ -12,7 +12,9 @@ use Rattle.paged_memory.specs.PageMap.{Page, Memory, Read, Write, HasWholePages,
 use Rattle.paged_memory.specs.Seen.{Frame, visible_as, visible, placed, seen, spliced, stored, can_store}
 use Rattle.paged_memory.proofs.Maps.{got_some, got_none, placed_same, changed, unseen}
 use Rattle.paged_memory.proofs.InPage.{put_in_page, put_nowhere, split_address}
+use Rattle.std.specs.List.{All}
 use Rattle.paged_memory.proofs.Visible.{rights_seen, allowed}
+use Rattle.paged_memory.proofs.Whole.{whole_put}
 
 piece_seen : (m : Memory) (p i : ℕ) (bs : List ℕ) (r : Rights) (bytes : List ℕ) → HasWholePages m → fin.get m p ≡ visible_as r bytes → p < 2 ^ 20 → i + length bs ≤ 4096
     → placed m p (visible_as r (spliced bytes i bs)) ≡ put_bytes m (p * 4096 + i) bs
@@ -100,3 +102,18 @@ put_step m a count rest h =
 pub put_none : (m : Memory) (a : ℕ) → put_bytes m a [] ≡ m
 unfolding put_bytes
 put_none m a = refl
+
+pub put_empty : (m : Memory) (a : ℕ) (bs : List ℕ) → length bs ≡ 0 → put_bytes m a bs ≡ m
+unfolding put_bytes
+put_empty m a [] e = refl
+put_empty m a (b ∷ bs) e = absurd (omega arith)
+
+-- a store in one page keeps whole pages
+pub store_whole : (m n : BTreeMap ℕ Frame) (a : ℕ) (bs : List ℕ) → HasWholePages (seen m.entries) → a < 2 ^ 32 → a % 4096 + length bs ≤ 4096 → All (λ (b : ℕ). b < 256) bs
+    → IsStoredIn m n (a / 4096) (a % 4096) bs → (tree.get nat_cmp m (page_of a) ≡ None → tree.IsUnchanged m n) → HasWholePages (seen n.entries)
+store_whole m n a bs whole lt h small there absent = elim (can_store (tree.get nat_cmp m (page_of a))) as (λ (b : Bool). b ≡ can_store (tree.get nat_cmp m (page_of a)) → HasWholePages (seen n.entries)) [
+  | true ↦ λ e.
+      let is : seen n.entries ≡ put_bytes (seen m.entries) (a / 4096 * 4096 + a % 4096) bs = store_made m n a bs whole lt h there e ∙ ap (λ (x : ℕ). put_bytes (seen m.entries) x bs) (sym (split_address a)) in
+      subst HasWholePages (sym is) (whole_put (seen m.entries) (a / 4096) (a % 4096) bs whole small (omega arith) h)
+  | false ↦ λ e. subst HasWholePages (sym (store_same m n (a / 4096) (a % 4096) bs there absent e)) whole
+] refl

@@ -183,6 +183,9 @@ unfoldable pub lift_pages : Memory → ℕ → ℕ → Memory
 lift_pages m first zero = m
 lift_pages m first (suc count) = lift_pages (lift_page m first) (first + 1) count
 
+abbrev pub HasRights : Memory → ℕ → Type 0
+HasRights m page = reaches (rights m page) may.Read ≡ true
+
 -- each of count pages from the first on has some right
 abbrev pub HaveRights : Memory → ℕ → ℕ → Type 0
-HaveRights m first count = (page : ℕ) → first ≤ page → page < first + count → reaches (rights m page) may.Read ≡ true
+HaveRights m first count = (page : ℕ) → first ≤ page → page < first + count → HasRights m page

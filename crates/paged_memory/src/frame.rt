@@ -2,7 +2,7 @@
 ghost use Rattle.std.specs.Prelude.{◌≡◌, ◌+◌, ◌≤◌, ◌<◌, IfOk, IsTrue, length, take, drop, slice_index, if◌then◌else◌};
 ghost use Rattle.paged_memory.specs.declared.rights.Rights.TheVariants as may;
 ghost use Rattle.paged_memory.specs.PageMap.{number, bytes_of, blank, is_width};
-ghost use Rattle.paged_memory.specs.Seen.{spliced};
+ghost use Rattle.paged_memory.specs.Seen.{spliced, lifted};
 
 use crate::Rights;
 use byteorder::{ByteOrder, LittleEndian};
@@ -121,6 +121,15 @@ impl Frame {
         self.rights = rights;
         if !keep {
             *self.bytes = [0; 4096];
+        }
+    }
+
+    /// A page without rights may be written, and is 0. Others stay.
+    pub fn lift(&mut self)
+        ensures { self.new ≡ lifted self.old }
+    {
+        if matches!(self.rights(), Rights::No) {
+            self.set(Rights::Write, false);
         }
     }
 }

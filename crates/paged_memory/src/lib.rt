@@ -4,8 +4,15 @@
 mod access;
 mod frame;
 mod frames;
+mod memory;
+mod ranges;
 mod reads;
 mod rights;
+mod writes;
 
 pub use access::{Access, StoreRefusal};
+pub use memory::Memory;
 pub use rights::Rights;
+
+#[cfg(test)]
+mod tests;

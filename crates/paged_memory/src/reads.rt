@@ -53,12 +53,7 @@ fn access_at(address: u32) -> Access
 }
 
 /// Why an access of `width` bytes is refused, byte for byte.
-pub fn refusal(
-    frames: &BTreeMap<u32, Frame>,
-    addr: u32,
-    width: u8,
-    need: Rights,
-) -> Option<Access>
+pub fn refusal(frames: &BTreeMap<u32, Frame>, addr: u32, width: u8, need: Rights) -> Option<Access>
     ensures { result ≡ refusal (seen frames.now.entries) need addr width }
 {
     let mut lowest = None;
@@ -177,7 +172,12 @@ pub fn read(frames: &BTreeMap<u32, Frame>, addr: u64, buf: &mut [u8])
         let address = addr + done as u64;
         let place = (address % 4096) as usize;
         let count = (buf.len() - done).min(4096 - place);
-        read_piece(frames, (address / 4096) as u32, place, &mut buf[done..done + count]);
+        read_piece(
+            frames,
+            (address / 4096) as u32,
+            place,
+            &mut buf[done..done + count],
+        );
         done += count;
     }
 }
