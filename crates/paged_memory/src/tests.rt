@@ -1,4 +1,6 @@
 //! Loads, stores and pages by hand.
+ghost use Rattle.std.specs.Prelude.{◌≤◌, ◌<◌};
+
 use crate::{Access, Memory, Rights, StoreRefusal};
 use std::alloc::Global;
 use std::process::Abort;
