@@ -1,12 +1,12 @@
 -- Changes of ranges of pages.
-use Rattle.std.proofs.Common.{◌≡◌, ◌≢◌, ℕ, zero, suc, ◌+◌, ◌-◌, ◌<◌, ◌≤◌, Bool, true, false, cond, List, Some, None, Option, refl, sym, ap, subst, ◌∙◌, arith}
+use Rattle.std.proofs.Common.{◌≡◌, ◌≢◌, ℕ, suc, ◌+◌, ◌-◌, ◌<◌, ◌≤◌, Bool, true, false, cond, List, Some, None, Option, refl, sym, ap, ◌∙◌, arith}
 use Rattle.std.specs.Ordering.{nat_cmp}
 use Rattle.std.specs.BTreeMap.{BTreeMap}
 use Rattle.std.specs.BTreeMap as tree
 use Rattle.std.specs.FinMap as fin
 use Rattle.paged_memory.specs.declared.rights.Rights.{Rights}
 use Rattle.paged_memory.specs.declared.rights.Rights.TheVariants as may
-use Rattle.paged_memory.specs.PageMap.{Page, Memory, Read, Write, rights, rights_in, reaches, HasRights, blank, bytes_in, set_page, set_pages, lift_in, lift_page, lift_pages, HaveRights}
+use Rattle.paged_memory.specs.PageMap.{Memory, Read, Write, rights, rights_in, reaches, HasRights, blank, bytes_in, set_page, set_pages, lift_in, lift_page, lift_pages}
 use Rattle.paged_memory.specs.Seen.{Frame, visible_as, visible, placed, seen, lifted_as, lifted}
 use Rattle.std.specs.Prelude.{IsSome, is_some}
 use Rattle.paged_memory.proofs.Maps.{shown, unseen, frame_stays, got_some, placed_same, placed_other, inserted_other, changed}

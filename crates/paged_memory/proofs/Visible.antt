@@ -1,17 +1,15 @@
 -- What is seen of a frame.
-use Rattle.std.proofs.Common.{◌≡◌, ℕ, suc, ◌+◌, ◌*◌, ◌/◌, ◌%◌, ◌^◌, ◌<◌, ◌≤◌, Bool, true, false, List, [], length, map, take, drop, get_or, replicate, Some, None, Ok, Option, option_map, refl, sym, ap, subst, ◌∙◌, arith}
-use Rattle.std.specs.Prelude.{T, IsSome}
+use Rattle.std.proofs.Common.{◌≡◌, ℕ, ◌+◌, ◌*◌, ◌/◌, ◌%◌, ◌^◌, ◌<◌, ◌≤◌, true, false, List, map, take, drop, get_or, replicate, Some, None, Ok, option_map, refl, sym, ap, ◌∙◌, arith}
 use Rattle.std.specs.Ordering.{nat_cmp}
 use Rattle.std.specs.BTreeMap.{BTreeMap}
 use Rattle.std.specs.BTreeMap as tree
 use Rattle.std.specs.FinMap as fin
 use Rattle.paged_memory.specs.declared.rights.Rights.{Rights}
 use Rattle.paged_memory.specs.declared.rights.Rights.TheVariants as may
-use Rattle.paged_memory.specs.declared.access.Access.{Access}
-use Rattle.paged_memory.specs.PageMap.{Right, Read, Write, Page, Memory, HasWholePages, page_of, rights_in, rights, byte_in, byte, reaches, addresses, forbidden, refusal, least, access_at, unless, loaded, number, put_bytes, bytes_from}
-use Rattle.paged_memory.specs.Seen.{Frame, visible_as, visible, placed, seen, spliced}
-use Rattle.paged_memory.proofs.Maps.{got_some, got_none, placed_same}
-use Rattle.paged_memory.proofs.InPage.{page_at, place_at, split_address, read_in_page, allowed_in_page, bytes_in_page, no_bytes_in_page, put_in_page, put_nowhere}
+use Rattle.paged_memory.specs.PageMap.{Right, Read, Write, Page, Memory, HasWholePages, page_of, rights_in, rights, byte_in, byte, reaches, addresses, refusal, least, access_at, unless, loaded, number, bytes_from}
+use Rattle.paged_memory.specs.Seen.{Frame, visible_as, seen}
+use Rattle.paged_memory.proofs.Maps.{got_some, got_none}
+use Rattle.paged_memory.proofs.InPage.{split_address, read_in_page, allowed_in_page, bytes_in_page, no_bytes_in_page}
 
 rights_visible : (r : Rights) (bytes : List ℕ) → rights_in (visible_as r bytes) ≡ r
 rights_visible may.No bytes = refl

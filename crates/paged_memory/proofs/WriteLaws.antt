@@ -1,5 +1,5 @@
 -- Writes to frames, and writes in pieces.
-use Rattle.std.proofs.Common.{◌≡◌, ℕ, zero, suc, ◌+◌, ◌*◌, ◌/◌, ◌%◌, ◌^◌, ◌<◌, ◌≤◌, Bool, true, false, cond, List, [], ◌∷◌, ◌++◌, length, take, drop, Some, None, Option, refl, sym, ap, subst, ◌∙◌, arith}
+use Rattle.std.proofs.Common.{◌≡◌, ℕ, suc, ◌+◌, ◌*◌, ◌/◌, ◌%◌, ◌^◌, ◌<◌, ◌≤◌, Bool, true, false, cond, List, [], ◌∷◌, ◌++◌, length, take, drop, Some, None, Option, refl, sym, ap, subst, ◌∙◌, arith}
 use Rattle.std.specs.Ordering.{nat_cmp}
 use Rattle.std.specs.BTreeMap.{BTreeMap}
 use Rattle.std.specs.BTreeMap as tree
@@ -8,9 +8,9 @@ use Rattle.std.proofs.Math.Nat.{mod-mod, mod-add-mod}
 use Rattle.std.proofs.lemmas.List.{take-append-drop, length-take-le}
 use Rattle.paged_memory.specs.declared.rights.Rights.{Rights}
 use Rattle.paged_memory.specs.declared.rights.Rights.TheVariants as may
-use Rattle.paged_memory.specs.PageMap.{Page, Memory, Read, Write, HasWholePages, page_of, rights, reaches, refusal, put_byte, put_bytes}
+use Rattle.paged_memory.specs.PageMap.{Page, Memory, Read, Write, HasWholePages, page_of, reaches, refusal, put_byte, put_bytes}
 use Rattle.paged_memory.specs.Seen.{Frame, visible_as, visible, placed, seen, spliced, stored, can_store}
-use Rattle.paged_memory.proofs.Maps.{got_some, got_none, placed_same, changed, unseen}
+use Rattle.paged_memory.proofs.Maps.{got_some, got_none, placed_same, changed}
 use Rattle.paged_memory.proofs.InPage.{put_in_page, put_nowhere, split_address}
 use Rattle.std.specs.List.{All}
 use Rattle.paged_memory.proofs.Visible.{rights_seen, allowed}

@@ -6,7 +6,7 @@ use Rattle.std.specs.BTreeMap as tree
 use Rattle.std.specs.FinMap as fin
 use Rattle.paged_memory.specs.declared.rights.Rights.{Rights}
 use Rattle.paged_memory.specs.declared.rights.Rights.TheVariants as may
-use Rattle.paged_memory.specs.PageMap.{Right, Read, Write, Page, Memory, reaches, blank}
+use Rattle.paged_memory.specs.PageMap.{Read, Write, Page, Memory, reaches, blank}
 
 -- a page's rights and bytes; one whose rights are No is as if it were not there
 pub record Frame : Type 0 where

@@ -4,6 +4,7 @@
 mod access;
 mod frame;
 mod frames;
+mod laws;
 mod memory;
 mod ranges;
 mod reads;
@@ -11,6 +12,7 @@ mod rights;
 mod writes;
 
 pub use access::{Access, StoreRefusal};
+pub use laws::{refusal_laws, write_laws};
 pub use memory::Memory;
 pub use rights::Rights;
 

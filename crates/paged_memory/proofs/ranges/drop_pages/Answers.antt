@@ -1,4 +1,4 @@
-use Rattle.std.proofs.Common.{◌≡◌, ◌+◌, ◌-◌, ◌∙◌, sym, ap, subst, arith}
+use Rattle.std.proofs.Common.{◌+◌, ◌-◌, ◌∙◌, sym, ap, subst, arith}
 use Rattle.paged_memory.specs.declared.rights.Rights.TheVariants as may
 use Rattle.paged_memory.specs.PageMap.{Memory, HasWholePages, set_pages}
 use Rattle.paged_memory.specs.Seen.{seen}

@@ -1,4 +1,4 @@
-use Rattle.std.proofs.Common.{◌≡◌, ◌+◌, ◌-◌, ◌∙◌, sym, ap, subst, arith}
+use Rattle.std.proofs.Common.{◌+◌, ◌-◌, ◌∙◌, sym, ap, subst, arith}
 use Rattle.paged_memory.specs.PageMap.{Memory, HasWholePages, HasRights, set_pages}
 use Rattle.paged_memory.specs.Seen.{seen}
 use Rattle.paged_memory.proofs.RangeLaws.{set_step, set_none, rights_stay}

@@ -1,4 +1,4 @@
-use Rattle.std.proofs.Common.{◌≡◌, ◌+◌, ◌%◌, ◌≤◌, ◌∙◌, ap, sym, arith}
+use Rattle.std.proofs.Common.{◌+◌, ◌%◌, ◌≤◌, ◌∙◌, ap, sym, arith}
 use Rattle.paged_memory.specs.declared.rights.Rights.{Rights}
 use Rattle.paged_memory.specs.declared.rights.Rights.TheVariants as may
 use Rattle.paged_memory.specs.PageMap.{reaches}

@@ -1,7 +1,7 @@
-use Rattle.std.proofs.Common.{ℕ, ◌≡◌, ◌<◌, ◌^◌, ◌∙◌, ap, arith, ◌+◌, ◌-◌, ◌%◌}
+use Rattle.std.proofs.Common.{ℕ, ◌<◌, ◌^◌, ◌∙◌, ap, arith, ◌+◌, ◌%◌}
 use Rattle.paged_memory.specs.PageMap.{byte}
 use Rattle.paged_memory.specs.Seen.{seen}
-use Rattle.paged_memory.proofs.ByteLaws.{number_more_at, small_step_at, fits_step, zero_at_end, below_one, number_small}
+use Rattle.paged_memory.proofs.ByteLaws.{number_more_at, small_step_at, fits_step, zero_at_end, below_one}
 use Rattle.paged_memory.proofs.reads.number_of.Goals as goal
 
 pub places-init : goal.places-init

@@ -1,4 +1,4 @@
-use Rattle.std.proofs.Common.{◌≡◌, ◌+◌, ◌≤◌, ◌%◌, ◌++◌, ap, sym, arith, length, List, ℕ}
+use Rattle.std.proofs.Common.{◌+◌, ◌≤◌, ◌++◌, ap, sym, arith, length, List, ℕ}
 use Rattle.paged_memory.specs.Seen.{seen}
 use Rattle.paged_memory.proofs.InPage.{split_address}
 use Rattle.paged_memory.proofs.ByteLaws.{bytes_from-none, read_more}

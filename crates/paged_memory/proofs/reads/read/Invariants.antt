@@ -1,4 +1,4 @@
-use Rattle.std.proofs.Common.{◌≡◌, ◌+◌, ◌-◌, ◌≤◌, ◌++◌, length, drop}
+use Rattle.std.proofs.Common.{◌≡◌, ◌-◌, ◌≤◌, ◌++◌, length, drop}
 use Rattle.paged_memory.specs.PageMap.{bytes_from}
 use Rattle.paged_memory.specs.Seen.{seen}
 use Rattle.paged_memory.proofs.reads.read.Given as goal

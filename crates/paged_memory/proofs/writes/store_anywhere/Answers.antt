@@ -1,4 +1,4 @@
-use Rattle.std.proofs.Common.{◌≡◌, ◌≤◌, ◌∙◌, ap, arith, ℕ, List, take}
+use Rattle.std.proofs.Common.{◌≤◌, ◌∙◌, ap, arith, ℕ, take}
 use Rattle.std.proofs.lemmas.Bool.Decides.{nat_tests}
 use Rattle.paged_memory.specs.PageMap.{put_bytes}
 use Rattle.paged_memory.specs.Seen.{seen}

@@ -1,4 +1,4 @@
-use Rattle.std.proofs.Common.{◌≡◌, ◌+◌, ◌≤◌, ◌%◌, ◌∙◌, sym, ap, subst, arith, ℕ, length}
+use Rattle.std.proofs.Common.{◌+◌, ◌≤◌, ◌%◌, ◌∙◌, sym, arith, length}
 use Rattle.paged_memory.specs.PageMap.{bytes_of}
 use Rattle.paged_memory.proofs.Numbers.{length-bytes_of}
 use Rattle.paged_memory.proofs.WriteLaws.{store_made, store_allowed, store_same, store_whole}

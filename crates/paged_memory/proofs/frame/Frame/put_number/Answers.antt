@@ -1,4 +1,4 @@
-use Rattle.std.proofs.Common.{◌≡◌, ◌∙◌, ap, List, ℕ, take, arith}
+use Rattle.std.proofs.Common.{◌∙◌, ap, List, ℕ, take, arith}
 use Rattle.std.proofs.lemmas.Bool.Decides.{nat_tests}
 use Rattle.paged_memory.specs.Seen.{spliced}
 use Rattle.paged_memory.proofs.Numbers.{written_bytes}
