@@ -34,10 +34,14 @@ HasWholePages m = (number : ℕ) (page : Page) → fin.get m number ≡ Some pag
 abbrev pub page_of : ℕ → ℕ
 page_of address = address / 4096
 
+abbrev pub rights_of : Right → Rights
+rights_of Read = may.Read
+rights_of Write = may.Write
+
 -- of a page or none
 abbrev pub rights_in : Option Page → Rights
 rights_in None = may.No
-rights_in (Some page) = elim page.right [ Read ↦ may.Read | Write ↦ may.Write ]
+rights_in (Some page) = rights_of page.right
 
 abbrev pub rights : Memory → ℕ → Rights
 rights m page = rights_in (fin.get m page)

@@ -1,5 +1,5 @@
 // The memory as its callers see it.
-ghost use Rattle.std.specs.Prelude.{◌≡◌, ◌+◌, ◌≤◌, ◌<◌, ◌^◌, ◌↔◌, Some, Err, IsTrue, IfOk, OnOk, OnErr, length};
+ghost use Rattle.std.specs.Prelude.{◌≡◌, ◌+◌, ◌≤◌, ◌<◌, ◌^◌, ◌↔◌, Some, None, Err, IsTrue, IfOk, OnOk, OnErr, length};
 ghost use Rattle.std.specs.FinMap as fin;
 ghost use Rattle.paged_memory.specs.declared.rights.Rights.TheVariants as may;
 ghost use Rattle.paged_memory.specs.PageMap.{HasWholePages, HaveRights, rights, is_width, loaded, refusal, put_bytes, bytes_of, bytes_from, readable, writable, set_pages, lift_pages};
@@ -76,6 +76,7 @@ impl Memory {
     pub fn store(&mut self, addr: u32, width: u8, value: u64) -> Result<(), StoreRefusal>
         requires { IsTrue (is_width width) }
         ensures ok { OnOk result (self.new ≡ put_bytes self.old addr (bytes_of width value)) }
+        ensures allowed { OnOk result (refusal self.old may.Write addr width ≡ None) }
         ensures refused { (access : Access) → (result ≡ Err (StoreRefusal.Access access)) ↔ (refusal self.old may.Write addr width ≡ Some access) }
         ensures err { OnErr result (self.new ≡ self.old) }
     {

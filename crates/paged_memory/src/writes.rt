@@ -77,6 +77,7 @@ fn store_anywhere(
     requires size { IsTrue (is_width width) }
     requires whole { HasWholePages (seen frames.old.entries) }
     ensures ok { OnOk result (seen frames.new.entries ≡ put_bytes (seen frames.old.entries) addr (bytes_of width value)) }
+    ensures allowed { OnOk result (refusal (seen frames.old.entries) may.Write addr width ≡ None) }
     ensures refused { (access : Access) → (result ≡ Err (StoreRefusal.Access access)) ↔ (refusal (seen frames.old.entries) may.Write addr width ≡ Some access) }
     ensures err { OnErr result (seen frames.new.entries ≡ seen frames.old.entries) }
     ensures whole { HasWholePages (seen frames.new.entries) }
@@ -99,6 +100,7 @@ pub fn store(
     requires size { IsTrue (is_width width) }
     requires whole { HasWholePages (seen frames.old.entries) }
     ensures ok { OnOk result (seen frames.new.entries ≡ put_bytes (seen frames.old.entries) addr (bytes_of width value)) }
+    ensures allowed { OnOk result (refusal (seen frames.old.entries) may.Write addr width ≡ None) }
     ensures refused { (access : Access) → (result ≡ Err (StoreRefusal.Access access)) ↔ (refusal (seen frames.old.entries) may.Write addr width ≡ Some access) }
     ensures err { OnErr result (seen frames.new.entries ≡ seen frames.old.entries) }
     ensures whole { HasWholePages (seen frames.new.entries) }
