@@ -54,8 +54,8 @@ byte_small m a whole = elim (fin.get m (page_of a)) as (λ (o : Option Page). fi
   | None ↦ λ e. omega arith
   | Some page ↦ λ e.
       let w = whole (page_of a) page e in
-      let l : length page.bytes ≡ 4096 = w.1.1.0 in
-      let small : All (λ (b : ℕ). b < 256) page.bytes = w.1.1.1 in
+      let l : length page.bytes ≡ 4096 = w.size in
+      let small : All (λ (b : ℕ). b < 256) page.bytes = w.small in
       All-get_or (λ (b : ℕ). b < 256) page.bytes (a % 4096) 0 (omega arith) small
 ] refl
 

@@ -39,7 +39,7 @@ there_in : (m : Memory) (a b : ℕ) (o : Option Page) → fin.get m (page_of a) 
 there_in m a b None e whole r = absurd (cc)
 there_in m a b (Some page) e whole r =
     let after : Page = record page { bytes = slice_set page.bytes (a % 4096) b } in
-    let size : length page.bytes ≡ 4096 = (whole (page_of a) page e).1.1.0 in
+    let size : length page.bytes ≡ 4096 = (whole (page_of a) page e).size in
     ap (λ o. byte_in o (a % 4096)) (inserted_there m (page_of a) after) ∙ get_or-set_same page.bytes (a % 4096) b 0 (omega arith)
 
 pub there_law : (m : Memory) (a b : ℕ) → HasWholePages m → has m may.Read a ≡ true → byte (put_byte m a b) a ≡ b
@@ -106,9 +106,9 @@ whole_in : (m : Memory) (a b : ℕ) (o : Option Page) → fin.get m (page_of a) 
 whole_in m a b None e whole small = whole
 whole_in m a b (Some page) e whole small =
     let is : IsPage (page_of a) page = whole (page_of a) page e in
-    let bytes : All (λ (x : ℕ). x < 256) page.bytes = is.1.1.1 in
+    let bytes : All (λ (x : ℕ). x < 256) page.bytes = is.small in
     whole_inserted m (page_of a) (record page { bytes = slice_set page.bytes (a % 4096) b }) whole
-    (is.0, (is.1.0, (length-set page.bytes (a % 4096) b ∙ is.1.1.0, All-set (λ (x : ℕ). x < 256) page.bytes (a % 4096) b small bytes)))
+    (record { low = is.low; high = is.high; size = length-set page.bytes (a % 4096) b ∙ is.size; small = All-set (λ (x : ℕ). x < 256) page.bytes (a % 4096) b small bytes })
 
 read_back : (bs : List ℕ) (m : Memory) (from : ℕ) → length bs ≤ 2 ^ 32 → HasWholePages m → forbidden m may.Write from (length bs) ≡ [] → All (λ (x : ℕ). x < 256) bs
     → map (byte (put_bytes m from bs)) (addresses from (length bs)) ≡ bs

@@ -66,7 +66,7 @@ load_seen m a n x f whole h r lt room is =
     let free : refusal (seen m.entries) may.Read a n ≡ None = allowed (seen m.entries) may.Read a n (ap (λ (x : Rights). reaches x may.Read) (sym (rights_seen m (page_of a) f h)) ∙ r) lt room in
     let bytes : map (byte (seen m.entries)) (addresses a n) ≡ take n (drop (a % 4096) f.bytes) =
     ap (λ (x : ℕ). map (byte (seen m.entries)) (addresses x n)) (sym (split_address a))
-    ∙ read_in_page n (seen m.entries) (a / 4096) (a % 4096) page there (omega arith) ((whole (page_of a) page there).1.1.0) room in
+    ∙ read_in_page n (seen m.entries) (a / 4096) (a % 4096) page there (omega arith) ((whole (page_of a) page there).size) room in
     sym ((λ j. unless (free j) (number (bytes j))) ∙ ap (λ (y : ℕ). Ok y) (sym is))
 
 pub read_seen : (m : BTreeMap ℕ Frame) (p i n : ℕ) (f : Frame) → HasWholePages (seen m.entries) → Some f ≡ tree.get nat_cmp m p → reaches f.rights may.Read ≡ true → i + n ≤ 4096
@@ -74,7 +74,7 @@ pub read_seen : (m : BTreeMap ℕ Frame) (p i n : ℕ) (f : Frame) → HasWholeP
 read_seen m p i n f whole h r room =
     let page : Page = record { right = right_of f.rights; bytes = f.bytes } in
     let there : fin.get (seen m.entries) p ≡ Some page = got_some m p f (sym h) ∙ is_page f.rights f.bytes r in
-    sym (bytes_in_page n (seen m.entries) p i page there ((whole p page there).1.1.0) room)
+    sym (bytes_in_page n (seen m.entries) p i page there ((whole p page there).size) room)
 
 pub hidden_read : (m : BTreeMap ℕ Frame) (p i n : ℕ) (f : Frame) → Some f ≡ tree.get nat_cmp m p → reaches f.rights may.Read ≡ false → i + n ≤ 4096 → replicate n 0 ≡ bytes_from (seen m.entries) (p * 4096 + i) n
 hidden_read m p i n f h r room = sym (no_bytes_in_page n (seen m.entries) p i (got_some m p f (sym h) ∙ hidden f.rights f.bytes r) room)

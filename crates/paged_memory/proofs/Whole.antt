@@ -42,26 +42,21 @@ length-spliced bytes i new h =
 
 spliced_page : (k i : ℕ) (page : Page) (new : List ℕ) → IsPage k page → All (λ (b : ℕ). b < 256) new → i + length new ≤ 4096 → IsPage k (record page { bytes = spliced page.bytes i new })
 spliced_page k i page new is small h =
-    let size : length page.bytes ≡ 4096 = is.1.1.0 in
-    let old : All (λ (b : ℕ). b < 256) page.bytes = is.1.1.1 in
-    let P : ℕ → Type 0 = λ b. b < 256 in (
-      is.0,
-      (
-        is.1.0,
-        (
-          length-spliced page.bytes i new (omega arith) ∙ size,
-          All-append P (take i page.bytes ++ new) (drop (i + length new) page.bytes)
-              (All-append P (take i page.bytes) new (All-take P i page.bytes old) small) (All-drop P (i + length new) page.bytes old),
-        ),
-      ),
-    )
+    let size : length page.bytes ≡ 4096 = is.size in
+    let old : All (λ (b : ℕ). b < 256) page.bytes = is.small in
+    let P : ℕ → Type 0 = λ b. b < 256 in record {
+      low = is.low;
+      high = is.high;
+      size = length-spliced page.bytes i new (omega arith) ∙ size;
+      small = All-append P (take i page.bytes ++ new) (drop (i + length new) page.bytes) (All-append P (take i page.bytes) new (All-take P i page.bytes old) small) (All-drop P (i + length new) page.bytes old);
+    }
 
 pub whole_put : (m : Memory) (p i : ℕ) (new : List ℕ) → HasWholePages m → All (λ (b : ℕ). b < 256) new → p < 2 ^ 20 → i + length new ≤ 4096 → HasWholePages (put_bytes m (p * 4096 + i) new)
 whole_put m p i new whole small lt h = elim (fin.get m p) as (λ (o : Option Page). fin.get m p ≡ o → HasWholePages (put_bytes m (p * 4096 + i) new)) [
   | None ↦ λ e. subst HasWholePages (sym (put_nowhere new m p i e lt h)) whole
   | Some page ↦ λ e.
       let is : IsPage p page = whole p page e in
-      subst HasWholePages (sym (put_in_page new m p i page e lt (is.1.1.0) h)) (whole_inserted m p (record page { bytes = spliced page.bytes i new }) whole (spliced_page p i page new is small h))
+      subst HasWholePages (sym (put_in_page new m p i page e lt (is.size) h)) (whole_inserted m p (record page { bytes = spliced page.bytes i new }) whole (spliced_page p i page new is small h))
 ] refl
 
 pub small_bytes : (n v : ℕ) → All (λ (b : ℕ). b < 256) (bytes_of n v)
@@ -78,12 +73,12 @@ unfolding blank
 small_blank = All-replicate (λ (b : ℕ). b < 256) 4096 0 (omega arith)
 
 blank_page : (k : ℕ) (right : Right) → 16 ≤ k → k < 2 ^ 20 → IsPage k (record { right = right; bytes = blank })
-blank_page k right low high = (low, (high, (length-blank, small_blank)))
+blank_page k right low high = record { low = low; high = high; size = length-blank; small = small_blank }
 
 held_page : (k : ℕ) (right : Right) (m : Memory) → HasWholePages m → 16 ≤ k → k < 2 ^ 20 → IsPage k (record { right = right; bytes = bytes_in (fin.get m k) })
 held_page k right m whole low high = elim (fin.get m k) as (λ (o : Option Page). fin.get m k ≡ o → IsPage k (record { right = right; bytes = bytes_in o })) [
   | None ↦ λ e. blank_page k right low high
-  | Some page ↦ λ e. let is : IsPage k page = whole k page e in (low, (high, (is.1.1.0, is.1.1.1)))
+  | Some page ↦ λ e. let is : IsPage k page = whole k page e in record { low = low; high = high; size = is.size; small = is.small }
 ] refl
 
 chosen_page : (k : ℕ) (right : Right) (m : Memory) (keep : Bool) → HasWholePages m → 16 ≤ k → k < 2 ^ 20 → IsPage k (record { right = right; bytes = cond keep (bytes_in (fin.get m k)) blank })

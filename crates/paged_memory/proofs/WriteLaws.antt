@@ -19,8 +19,8 @@ use Rattle.paged_memory.proofs.Whole.{whole_put}
 piece_seen : (m : Memory) (p i : ℕ) (bs : List ℕ) (r : Rights) (bytes : List ℕ) → HasWholePages m → fin.get m p ≡ visible_as r bytes → p < 2 ^ 20 → i + length bs ≤ 4096
     → placed m p (visible_as r (spliced bytes i bs)) ≡ put_bytes m (p * 4096 + i) bs
 piece_seen m p i bs may.No bytes whole g lt h = placed_same m p None g ∙ sym (put_nowhere bs m p i g lt h)
-piece_seen m p i bs may.Read bytes whole g lt h = let page : Page = record { right = Read; bytes = bytes } in sym (put_in_page bs m p i page g lt ((whole p page g).1.1.0) h)
-piece_seen m p i bs may.Write bytes whole g lt h = let page : Page = record { right = Write; bytes = bytes } in sym (put_in_page bs m p i page g lt ((whole p page g).1.1.0) h)
+piece_seen m p i bs may.Read bytes whole g lt h = let page : Page = record { right = Read; bytes = bytes } in sym (put_in_page bs m p i page g lt ((whole p page g).size) h)
+piece_seen m p i bs may.Write bytes whole g lt h = let page : Page = record { right = Write; bytes = bytes } in sym (put_in_page bs m p i page g lt ((whole p page g).size) h)
 
 -- bytes that are put into a frame, if there is one
 pub piece_put : (m n : BTreeMap ℕ Frame) (p i : ℕ) (bs : List ℕ) → HasWholePages (seen m.entries) → p < 2 ^ 20 → i + length bs ≤ 4096

@@ -1,6 +1,6 @@
 -- A machine's memory and the accesses to it (Gray Paper 0.7.0, appendix A). Which forbidden byte decides a refusal, that Low is below
 -- 65,536, and the calls that change pages are this project's own.
-use Rattle.std.specs.Prelude.{◌≡◌, ℕ, zero, suc, ◌+◌, ◌*◌, ◌/◌, ◌%◌, ◌^◌, ◌<◌, ◌≤◌, min, Bool, true, not, ◌&&◌, ◌||◌, ◌==◌, nat_le, nat_lt, if◌then◌else◌, List, [], ◌∷◌, map, length, replicate, get_or, slice_set, Option, Some, None, option_map, Result, Ok, Err}
+use Rattle.std.specs.Prelude.{◌≡◌, ℕ, zero, suc, ◌+◌, ◌*◌, ◌/◌, ◌%◌, ◌^◌, ◌<◌, ◌≤◌, min, Bool, true, not, ◌&&◌, ◌||◌, ◌==◌, nat_le, nat_lt, if◌then◌else◌, List, [], ◌∷◌, map, length, replicate, slice_index, slice_set, Option, Some, None, option_map, Result, Ok, Err}
 use Rattle.std.specs.List.{filter, All}
 use Rattle.std.specs.Ordering.{nat_cmp}
 use Rattle.std.specs.FinMap as fin
@@ -24,9 +24,12 @@ pub record Page : Type 0 where
 abbrev pub Memory : Type 0
 Memory = fin.FinMap nat_cmp Page
 
--- each page is one of those from 16 to 2 ^ 20 - 1, and has 4,096 bytes
-abbrev pub IsPage : ℕ → Page → Type 0
-IsPage number page = (16 ≤ number) × ((number < 2 ^ 20) × ((length page.bytes ≡ 4096) × All (λ byte. byte < 256) page.bytes))
+-- a page has one of the numbers from 16 to 2 ^ 20 - 1, and 4,096 bytes
+pub record IsPage (number : ℕ) (page : Page) : Type 0 where
+  pub low : 16 ≤ number
+  pub high : number < 2 ^ 20
+  pub size : length page.bytes ≡ 4096
+  pub small : All (λ byte. byte < 256) page.bytes
 
 abbrev pub HasWholePages : Memory → Type 0
 HasWholePages m = (number : ℕ) (page : Page) → fin.get m number ≡ Some page → IsPage number page
@@ -48,7 +51,7 @@ rights m page = rights_in (fin.get m page)
 
 abbrev pub byte_in : Option Page → ℕ → ℕ
 byte_in None place = 0
-byte_in (Some page) place = get_or page.bytes place 0
+byte_in (Some page) place = slice_index page.bytes place
 
 abbrev pub byte : Memory → ℕ → ℕ
 byte m address = byte_in (fin.get m (page_of address)) (address % 4096)
