@@ -1,0 +1,185 @@
+-- Accesses byte for byte.
+use Rattle.std.proofs.Common.{◌≡◌, ℕ, zero, suc, ◌+◌, ◌-◌, ◌*◌, ◌/◌, ◌%◌, ◌^◌, ◌<◌, ◌≤◌, Bool, true, false, cond, List, [], ◌∷◌, ◌++◌, map, length, take, drop, Some, None, Option, refl, sym, ap, subst, ◌∙◌, arith}
+use Rattle.std.specs.Prelude.{not, ◌&&◌, IfOk}
+use Rattle.std.specs.FinMap as fin
+use Rattle.std.specs.List.{All}
+use Rattle.std.proofs.Math.Nat.{pow-le-pow_right}
+use Rattle.std.proofs.lemmas.List.Elements.{All-get_or}
+use Rattle.paged_memory.specs.declared.rights.Rights.{Rights}
+use Rattle.paged_memory.specs.declared.rights.Rights.TheVariants as may
+use Rattle.paged_memory.specs.declared.access.Access.{Access}
+use Rattle.paged_memory.specs.PageMap.{Page, Memory, HasWholePages, page_of, rights, reaches, byte_in, byte, has, addresses, forbidden, lower, least, number, all_have, bytes_from, unless, loaded, refusal}
+use Rattle.std.proofs.lemmas.List.{take_at, drop_at, drop-drop, append_assoc, length-take-le, length-drop}
+use borrow.Rule.Slice.PartMut.{put_mid}
+use Rattle.paged_memory.proofs.Numbers.{one_more}
+use Rattle.paged_memory.proofs.InPage.{split_address, all_in_page}
+
+-- the last place but some, counted from the front
+forbidden_next : (m : Memory) (need : Rights) (a n : ℕ) (b : Bool) → has m need (a % 2 ^ 32) ≡ b → cond (not b) (a % 2 ^ 32 ∷ forbidden m need (a + 1) n) (forbidden m need (a + 1) n) ≡ forbidden m need a (suc n)
+unfolding addresses
+forbidden_next m need a n b h = ap (λ (t : Bool). cond (not t) (a % 2 ^ 32 ∷ forbidden m need (a + 1) n) (forbidden m need (a + 1) n)) (sym h)
+
+pub lowest_more : (m : Memory) (need : Rights) (a k width x : ℕ) (low : Option ℕ) → k < width → x ≡ (a + k) % 2 ^ 32 → has m need x ≡ false
+    → low ≡ least (forbidden m need (a + suc k) (width - suc k)) → Some (lower x low) ≡ least (forbidden m need (a + k) (width - k))
+lowest_more m need a k width x low h is lacks low_is =
+    let e : width - k ≡ suc (width - suc k) = omega arith in
+    let s : a + k + 1 ≡ a + suc k = omega arith in
+    (λ j. Some (lower (is j) (low_is j)))
+    ∙ ap (λ (y : ℕ). least ((a + k) % 2 ^ 32 ∷ forbidden m need y (width - suc k))) (sym s)
+    ∙ ap least (forbidden_next m need (a + k) (width - suc k) false (ap (has m need) (sym is) ∙ lacks))
+    ∙ ap (λ (n : ℕ). least (forbidden m need (a + k) n)) (sym e)
+
+pub lowest_same : (m : Memory) (need : Rights) (a k width x : ℕ) (low : Option ℕ) → k < width → x ≡ (a + k) % 2 ^ 32 → has m need x ≡ true
+    → low ≡ least (forbidden m need (a + suc k) (width - suc k)) → low ≡ least (forbidden m need (a + k) (width - k))
+lowest_same m need a k width x low h is there low_is =
+    let e : width - k ≡ suc (width - suc k) = omega arith in
+    let s : a + k + 1 ≡ a + suc k = omega arith in
+    low_is
+    ∙ ap (λ (y : ℕ). least (forbidden m need y (width - suc k))) (sym s)
+    ∙ ap least (forbidden_next m need (a + k) (width - suc k) true (ap (has m need) (sym is) ∙ there))
+    ∙ ap (λ (n : ℕ). least (forbidden m need (a + k) n)) (sym e)
+
+pub number_more : (m : Memory) (a k width b x : ℕ) → k < width → b ≡ byte m ((a + k) % 2 ^ 32) → x ≡ number (map (byte m) (addresses (a + suc k) (width - suc k)))
+    → b + 256 * x ≡ number (map (byte m) (addresses (a + k) (width - k)))
+unfolding number addresses
+number_more m a k width b x h is rest =
+    let e : width - k ≡ suc (width - suc k) = omega arith in
+    let s : a + k + 1 ≡ a + suc k = omega arith in
+    (λ j. is j + 256 * rest j)
+    ∙ ap (λ (y : ℕ). byte m ((a + k) % 2 ^ 32) + 256 * number (map (byte m) (addresses y (width - suc k)))) (sym s)
+    ∙ ap (λ (n : ℕ). number (map (byte m) (addresses (a + k) n))) (sym e)
+
+pub byte_small : (m : Memory) (a : ℕ) → HasWholePages m → byte m a < 256
+byte_small m a whole = elim (fin.get m (page_of a)) as (λ (o : Option Page). fin.get m (page_of a) ≡ o → byte_in o (a % 4096) < 256) [
+  | None ↦ λ e. omega arith
+  | Some page ↦ λ e.
+      let w = whole (page_of a) page e in
+      let l : length page.bytes ≡ 4096 = w.size in
+      let small : All (λ (b : ℕ). b < 256) page.bytes = w.small in
+      All-get_or (λ (b : ℕ). b < 256) page.bytes (a % 4096) 0 (omega arith) small
+] refl
+
+pub number_small : (n : ℕ) (m : Memory) (a : ℕ) → HasWholePages m → number (map (byte m) (addresses a n)) < 256 ^ n
+unfolding number addresses
+number_small zero m a whole = omega arith
+number_small (suc n) m a whole = one_more n (byte m (a % 2 ^ 32)) (number (map (byte m) (addresses (a + 1) n))) (byte_small m (a % 2 ^ 32) whole) (number_small n m (a + 1) whole)
+
+pub small_step : (x width k b : ℕ) → k < width → b < 256 → x < 256 ^ (width - suc k) → b + 256 * x < 256 ^ (width - k)
+small_step x width k b h s t =
+    let e : width - k ≡ suc (width - suc k) = omega arith in
+    subst (λ (n : ℕ). b + 256 * x < 256 ^ n) (sym e) (one_more (width - suc k) b x s t)
+
+-- ---- Ranges in pieces
+
+regrouped : (a b c : Bool) → (a && (b && c)) ≡ ((a && b) && c)
+regrouped true b c = refl
+regrouped false b c = refl
+
+pub all_have-add : (n : ℕ) (m : Memory) (need : Rights) (a k : ℕ) → all_have m need a (n + k) ≡ (all_have m need a n && all_have m need (a + n) k)
+unfolding all_have
+all_have-add zero m need a k = ap (λ (x : ℕ). all_have m need a x) (omega arith) ∙ ap (λ (x : ℕ). all_have m need x k) (omega arith)
+all_have-add (suc n) m need a k =
+    let e : suc n + k ≡ suc (n + k) = omega arith in
+    let s : a + 1 + n ≡ a + suc n = omega arith in
+    ap (λ (x : ℕ). all_have m need a x) e
+    ∙ ap (λ (b : Bool). has m need a && b) (all_have-add n m need (a + 1) k)
+    ∙ ap (λ (x : ℕ). has m need a && (all_have m need (a + 1) n && all_have m need x k)) s
+    ∙ regrouped (has m need a) (all_have m need (a + 1) n) (all_have m need (a + suc n) k)
+
+pub bytes_from-add : (n : ℕ) (m : Memory) (a k : ℕ) → bytes_from m a (n + k) ≡ bytes_from m a n ++ bytes_from m (a + n) k
+unfolding bytes_from
+bytes_from-add zero m a k = ap (λ (x : ℕ). bytes_from m a x) (omega arith) ∙ ap (λ (x : ℕ). bytes_from m x k) (omega arith)
+bytes_from-add (suc n) m a k =
+    let e : suc n + k ≡ suc (n + k) = omega arith in
+    let s : a + 1 + n ≡ a + suc n = omega arith in
+    ap (λ (x : ℕ). bytes_from m a x) e
+    ∙ ap (λ (xs : List ℕ). byte m a ∷ xs) (bytes_from-add n m (a + 1) k)
+    ∙ ap (λ (x : ℕ). byte m a ∷ (bytes_from m (a + 1) n ++ bytes_from m x k)) s
+
+-- ---- For a count that falls by one
+
+prev : (P : ℕ → Type 0) (k : ℕ) → 0 < k → P k → P (suc (k - 1))
+prev P k h p = let e : suc (k - 1) ≡ k = omega arith in subst P (sym e) p
+
+pub lowest_more_at : (m : Memory) (need : Rights) (a k width x : ℕ) (low : Option ℕ) → 0 < k → k ≤ width → x ≡ (a + (k - 1)) % 2 ^ 32 → has m need x ≡ false
+    → low ≡ least (forbidden m need (a + k) (width - k)) → Some (lower x low) ≡ least (forbidden m need (a + (k - 1)) (width - (k - 1)))
+lowest_more_at m need a k width x low h room is lacks low_is =
+    lowest_more m need a (k - 1) width x low (omega arith) is lacks (prev (λ (j : ℕ). low ≡ least (forbidden m need (a + j) (width - j))) k h low_is)
+
+pub lowest_same_at : (m : Memory) (need : Rights) (a k width x : ℕ) (low : Option ℕ) → 0 < k → k ≤ width → x ≡ (a + (k - 1)) % 2 ^ 32 → has m need x ≡ true
+    → low ≡ least (forbidden m need (a + k) (width - k)) → low ≡ least (forbidden m need (a + (k - 1)) (width - (k - 1)))
+lowest_same_at m need a k width x low h room is there low_is =
+    lowest_same m need a (k - 1) width x low (omega arith) is there (prev (λ (j : ℕ). low ≡ least (forbidden m need (a + j) (width - j))) k h low_is)
+
+pub number_more_at : (m : Memory) (a k width b x : ℕ) → 0 < k → k ≤ width → b ≡ byte m ((a + (k - 1)) % 2 ^ 32) → x ≡ number (map (byte m) (addresses (a + k) (width - k)))
+    → b + 256 * x ≡ number (map (byte m) (addresses (a + (k - 1)) (width - (k - 1))))
+number_more_at m a k width b x h room is rest =
+    number_more m a (k - 1) width b x (omega arith) is (prev (λ (j : ℕ). x ≡ number (map (byte m) (addresses (a + j) (width - j)))) k h rest)
+
+pub small_step_at : (x width k b : ℕ) → 0 < k → k ≤ width → b < 256 → x < 256 ^ (width - k) → b + 256 * x < 256 ^ (width - (k - 1))
+small_step_at x width k b h room s t = small_step x width (k - 1) b (omega arith) s (prev (λ (j : ℕ). x < 256 ^ (width - j)) k h t)
+
+-- at most eight bytes fit 64 bits
+pub fits_step : (x width k : ℕ) → 0 < k → width ≤ 8 → x < 256 ^ (width - k) → x < 256 ^ 7
+fits_step x width k h eight s = let p : 256 ^ (width - k) ≤ 256 ^ 7 = pow-le-pow_right {n = 256} (omega arith) {i = width - k} {j = 7} (omega arith) in omega arith
+
+pub none_at_end : (m : Memory) (need : Rights) (a width : ℕ) → None ≡ least (forbidden m need (a + width) (width - width))
+unfolding addresses
+none_at_end m need a width = let e : width - width ≡ 0 = omega arith in rw e refl
+
+pub zero_at_end : (m : Memory) (a width : ℕ) → 0 ≡ number (map (byte m) (addresses (a + width) (width - width)))
+unfolding number addresses
+zero_at_end m a width = let e : width - width ≡ 0 = omega arith in rw e refl
+
+pub below_one : (width : ℕ) → 0 < 256 ^ (width - width)
+below_one width = let e : width - width ≡ 0 = omega arith in rw e (omega arith)
+
+-- ---- Piece by piece
+
+pub lacks_at : (m : Memory) (need : Rights) (a n : ℕ) → 0 < n → has m need a ≡ false → all_have m need a n ≡ false
+unfolding all_have
+lacks_at m need a zero h l = absurd (omega arith)
+lacks_at m need a (suc n) h l = ap (λ (b : Bool). b && all_have m need (a + 1) n) l
+
+pub has_piece : (m : Memory) (need : Rights) (a n count : ℕ) → reaches (rights m (page_of a)) need ≡ true → count ≤ n → a % 4096 + count ≤ 4096 → all_have m need a n ≡ all_have m need (a + count) (n - count)
+has_piece m need a n count r le room =
+    let e : n ≡ count + (n - count) = omega arith in
+    let here : all_have m need a count ≡ true = ap (λ (x : ℕ). all_have m need x count) (sym (split_address a)) ∙ all_in_page count m need (a / 4096) (a % 4096) r room in
+    ap (λ (x : ℕ). all_have m need a x) e ∙ all_have-add count m need a (n - count) ∙ ap (λ (b : Bool). b && all_have m need (a + count) (n - count)) here
+
+pub nothing_left : (m : Memory) (need : Rights) (a n : ℕ) → n ≤ 0 → all_have m need a n ≡ true
+unfolding all_have
+nothing_left m need a n h = let e : n ≡ 0 = omega arith in rw e refl
+
+pub length-bytes_from : (n : ℕ) (m : Memory) (a : ℕ) → length (bytes_from m a n) ≡ n
+unfolding bytes_from
+length-bytes_from zero m a = refl
+length-bytes_from (suc n) m a = ap suc (length-bytes_from n m (a + 1))
+
+pub bytes_from-none : (m : Memory) (a : ℕ) → bytes_from m a 0 ≡ []
+unfolding bytes_from
+bytes_from-none m a = refl
+
+pub read_more : (m : Memory) (a done count k x : ℕ) (old buf piece : List ℕ) → buf ≡ bytes_from m a done ++ drop done old → length buf ≡ length old → done + count ≤ length old → k ≡ count → x ≡ a + done
+    → piece ≡ bytes_from m x (length (take k (drop done buf))) → put_mid done k buf piece ≡ bytes_from m a (done + count) ++ drop (done + count) old
+read_more m a done count k x old buf piece is same room ek ex new =
+    let taken : length (take k (drop done buf)) ≡ count = length-take-le k (drop done buf) (omega (arith, length-drop done buf)) ∙ ek in
+    let front : take done buf ≡ bytes_from m a done = ap (take done) is ∙ take_at (bytes_from m a done) (drop done old) done (length-bytes_from done m a) in
+    let middle : piece ≡ bytes_from m (a + done) count = new ∙ (λ j. bytes_from m (ex j) (taken j)) in
+    let rest : drop done buf ≡ drop done old = ap (drop done) is ∙ drop_at (bytes_from m a done) (drop done old) done (length-bytes_from done m a) in
+    let back : drop k (drop done buf) ≡ drop (done + count) old = (λ j. drop (ek j) (rest j)) ∙ drop-drop count done old in
+    (λ j. front j ++ (middle j ++ back j))
+    ∙ sym (append_assoc (bytes_from m a done) (bytes_from m (a + done) count) (drop (done + count) old))
+    ∙ ap (λ (xs : List ℕ). xs ++ drop (done + count) old) (sym (bytes_from-add done m a count))
+
+unless_small : (o : Option Access) (x bound : ℕ) → x < bound → IfOk (unless o x) (λ value. value < bound)
+unless_small None x bound h = h
+unless_small (Some access) x bound h = tt
+
+pub loaded_small : (m : Memory) (a n : ℕ) → HasWholePages m → IfOk (loaded m a n) (λ value. value < 256 ^ n)
+loaded_small m a n whole = unless_small (refusal m may.Read a n) (number (map (byte m) (addresses a n))) (256 ^ n) (number_small n m a whole)
+
+pub bytes_from-empty : (m : Memory) (a : ℕ) (bs : List ℕ) → length bs ≡ 0 → bytes_from m a (length bs) ≡ bs
+unfolding bytes_from
+bytes_from-empty m a [] e = refl
+bytes_from-empty m a (b ∷ bs) e = absurd (omega arith)

@@ -1,0 +1,10 @@
+pub mod ByteLaws
+pub mod InPage
+pub mod Maps
+pub mod Numbers
+pub mod RangeLaws
+pub mod ReadBack
+pub mod RefusalLaws
+pub mod Visible
+pub mod Whole
+pub mod WriteLaws

@@ -1,0 +1,3 @@
+pub mod PageMap
+pub mod Codes
+pub mod Seen

@@ -1,0 +1,178 @@
+// The memory as its callers see it.
+ghost use Rattle.std.specs.Prelude.{◌≡◌, ◌+◌, ◌≤◌, ◌<◌, ◌^◌, ◌↔◌, Some, None, Err, IsTrue, IfOk, OnOk, OnErr, length};
+ghost use Rattle.std.specs.FinMap as fin;
+ghost use Rattle.paged_memory.specs.declared.rights.Rights.TheVariants as may;
+ghost use Rattle.paged_memory.specs.PageMap.{HasWholePages, HaveRights, rights, is_width, loaded, refusal, put_bytes, bytes_of, bytes_from, readable, writable, set_pages, lift_pages};
+
+use crate::frame::Frame;
+use crate::ranges::{drop_pages, lift_pages, make_frames, set_pages};
+use crate::{Access, Rights, StoreRefusal, reads, writes};
+use std::alloc::{AllocError, Global};
+use std::collections::BTreeMap;
+use std::marker::Model;
+
+/// A machine's memory: 2^20 pages of 4,096 bytes, each with its rights. The 16 lowest pages never
+/// have any.
+#[derive(Drop)]
+pub struct Memory {
+    alloc: Global,
+    frames: BTreeMap<u32, Frame>,
+}
+
+impl Model for Memory {
+    ghost use Rattle.paged_memory.specs.PageMap.{Memory, HasWholePages};
+    ghost use Rattle.paged_memory.specs.Codes.{memory_code};
+    ghost use Rattle.paged_memory.specs.Seen.{seen};
+
+    ghost Value = { Memory };
+
+    ghost coded = { memory_code };
+
+    ghost view = { λ m. seen m.frames.entries };
+
+    ghost invariant = { λ m. HasWholePages (seen m.frames.entries) };
+}
+
+impl Memory {
+    /// No page has rights.
+    pub fn new(alloc: Global) -> Memory
+        ensures { result ≡ fin.empty }
+    {
+        Memory {
+            alloc,
+            frames: BTreeMap::new(alloc),
+        }
+    }
+
+    /// The rights of a page, by its number.
+    #[inline]
+    pub fn rights(&self, page: u32) -> Rights
+        ensures value { result ≡ rights self.now page }
+        ensures whole { HasWholePages self.now }
+    {
+        reads::rights_of(&self.frames, page)
+    }
+
+    /// The number of the `width` bytes at an address, the lowest first. Addresses are modulo 2^32.
+    ///
+    /// # Errors
+    /// Low where some byte below 65,536 may not be read; else Fault with the start of the lowest
+    /// page that holds a byte which may not be read.
+    #[inline]
+    pub fn load(&self, addr: u32, width: u8) -> Result<u64, Access>
+        requires { IsTrue (is_width width) }
+        ensures value { result ≡ loaded self.now addr width }
+        ensures bounded { IfOk result (λ value. value < 256 ^ width) }
+    {
+        reads::load(&self.frames, addr, width)
+    }
+
+    /// Stores the `width` low bytes of a number, the lowest first. Addresses are modulo 2^32.
+    ///
+    /// # Errors
+    /// Access, by the rule of `load` for bytes that may not be written; NoMemory for want of memory.
+    /// No byte has changed then.
+    #[inline]
+    pub fn store(&mut self, addr: u32, width: u8, value: u64) -> Result<(), StoreRefusal>
+        requires { IsTrue (is_width width) }
+        ensures ok { OnOk result (self.new ≡ put_bytes self.old addr (bytes_of width value)) }
+        ensures allowed { OnOk result (refusal self.old may.Write addr width ≡ None) }
+        ensures refused { (access : Access) → (result ≡ Err (StoreRefusal.Access access)) ↔ (refusal self.old may.Write addr width ≡ Some access) }
+        ensures err { OnErr result (self.new ≡ self.old) }
+    {
+        writes::store(&mut self.frames, addr, width, value)
+    }
+
+    /// Whether `n` bytes may be read: there are none, or they end at or below 2^32 and each may.
+    pub fn readable(&self, addr: u64, n: u64) -> bool
+        ensures { result ≡ readable self.now addr n }
+    {
+        reads::accessible(&self.frames, addr, n, Rights::Read)
+    }
+
+    /// Whether `n` bytes may be written: there are none, or they end at or below 2^32 and each may.
+    pub fn writable(&self, addr: u64, n: u64) -> bool
+        ensures { result ≡ writable self.now addr n }
+    {
+        reads::accessible(&self.frames, addr, n, Rights::Write)
+    }
+
+    /// Reads bytes that may be read.
+    pub fn copy_out(&self, addr: u64, buf: &mut [u8])
+        requires { IsTrue (readable self.now addr (length buf.old)) }
+        ensures { buf.new ≡ bytes_from self.now addr (length buf.old) }
+    {
+        let frames = &self.frames;
+        if !buf.is_empty() {
+            reads::read(frames, addr, buf);
+        }
+    }
+
+    /// Writes bytes that may be written.
+    ///
+    /// # Errors
+    /// `AllocError` for want of memory; the memory is then as before.
+    pub fn copy_in(&mut self, addr: u64, bytes: &[u8]) -> Result<(), AllocError>
+        requires { IsTrue (writable self.old addr (length bytes.now)) }
+        ensures ok { OnOk result (self.new ≡ put_bytes self.old addr bytes.now) }
+        ensures err { OnErr result (self.new ≡ self.old) }
+    {
+        writes::put_at(&mut self.frames, addr, bytes);
+        Ok(())
+    }
+
+    /// Writes bytes that may be read, to lay out pages that may not be written.
+    ///
+    /// # Errors
+    /// `AllocError` for want of memory; the memory is then as before.
+    pub fn fill(&mut self, addr: u64, bytes: &[u8]) -> Result<(), AllocError>
+        requires { IsTrue (readable self.old addr (length bytes.now)) }
+        ensures ok { OnOk result (self.new ≡ put_bytes self.old addr bytes.now) }
+        ensures err { OnErr result (self.new ≡ self.old) }
+    {
+        writes::put_at(&mut self.frames, addr, bytes);
+        Ok(())
+    }
+
+    /// Gives each of `count` pages these rights. Their bytes become 0 unless they are kept; with
+    /// No they become 0 in any case. Bytes are kept only of pages that have rights.
+    ///
+    /// # Errors
+    /// `AllocError` for want of memory; the memory is then as before.
+    pub fn set_pages(
+        &mut self,
+        first: u32,
+        count: u32,
+        rights: Rights,
+        keep: bool,
+    ) -> Result<(), AllocError>
+        requires low { 16 ≤ first }
+        requires high { first + count ≤ 2 ^ 20 }
+        requires kept { IsTrue keep → HaveRights self.old first count }
+        ensures ok { OnOk result (self.new ≡ set_pages self.old first count rights keep) }
+        ensures err { OnErr result (self.new ≡ self.old) }
+    {
+        if matches!(rights, Rights::No) {
+            drop_pages(&mut self.frames, first, count, keep);
+            return Ok(());
+        }
+        make_frames(self.alloc, &mut self.frames, first, count)?;
+        set_pages(&mut self.frames, first, count, rights, keep);
+        Ok(())
+    }
+
+    /// Lets each of `count` pages that has no rights be written, and makes it 0. Others stay.
+    ///
+    /// # Errors
+    /// `AllocError` for want of memory; the memory is then as before.
+    pub fn lift_pages(&mut self, first: u32, count: u32) -> Result<(), AllocError>
+        requires low { 16 ≤ first }
+        requires high { first + count ≤ 2 ^ 20 }
+        ensures ok { OnOk result (self.new ≡ lift_pages self.old first count) }
+        ensures err { OnErr result (self.new ≡ self.old) }
+    {
+        make_frames(self.alloc, &mut self.frames, first, count)?;
+        lift_pages(&mut self.frames, first, count);
+        Ok(())
+    }
+}
