@@ -1,18 +1,18 @@
 -- The mask's bits in four of its bytes.
-use Rattle.std.proofs.Common.{◌≡◌, ℕ, zero, suc, ◌+◌, ◌-◌, ◌*◌, ◌/◌, ◌%◌, ◌^◌, ◌<◌, ◌≤◌, true, Bool, List, length, take, drop, get_or, arith, refl, ap, sym, ◌∙◌, inl, inr, length-drop}
+use Rattle.std.proofs.Common.{◌≡◌, ℕ, zero, suc, ◌+◌, ◌-◌, ◌*◌, ◌/◌, ◌%◌, ◌^◌, ◌<◌, ◌≤◌, true, false, Bool, subst, lit<, List, length, take, drop, get_or, arith, refl, ap, sym, ◌∙◌, inl, inr, length-drop}
 use Rattle.std.specs.Prelude.{◌==◌, bit_or}
-use Rattle.std.specs.Int.{w32, bit_at, trailing_zeros}
-use Rattle.std.proofs.Math.Nat.{div-div-eq-div-mul, pow-succ'}
+use Rattle.std.specs.Int.{w32, bit_at, trailing_zeros, leading_zeros, ◌∣◌}
+use Rattle.std.proofs.Math.Nat.{div-div-eq-div-mul, pow-succ', pow-le-pow_right, one-le-pow, div-eq_of_lt, div-eq_of_lt-le, dvd-mul_right, mod-mod_of_dvd}
 use Rattle.std.proofs.lemmas.Bool.{cases_lt}
 use Rattle.std.proofs.lemmas.List.{get_or-drop, get_or-take, length-take-le}
-use Rattle.std.proofs.lemmas.Nat.{shr-shr, or_lt, le_or_r}
+use Rattle.std.proofs.lemmas.Nat.{shr-shr, or_lt, le_or_r, leading_top, field_of}
 use Rattle.std.proofs.lemmas.Nat.Bits.{bit_at-trailing_zeros, bit_at_or, bit_at-pow_same, bit_at-pow_other}
 use Rattle.jam_codec.specs.Spelling.{little_number, binary_digits}
 use Rattle.jam_codec.specs.Laws.{AreBytes}
 use Rattle.jam_codec.proofs.Numbers.{AreBytes-take, AreBytes-drop}
 use Rattle.jam_codec.proofs.Bits.{binary_digits-of_bytes}
 use Rattle.blob_decode.specs.Program.{mask_bit, gap}
-use Rattle.blob_decode.specs.Kept.{program_of, Keeps, FirstSet}
+use Rattle.blob_decode.specs.Kept.{program_of, Keeps, FirstSet, LastSet}
 use Rattle.blob_decode.proofs.Starts.{gap-is}
 use Rattle.blob_decode.proofs.KeptLaws.{mask_bit-kept}
 
@@ -34,6 +34,38 @@ FirstSet-trailing_zeros bits h =
       zeros = λ j less. sym (low j (omega arith)) ∙ found.2 j less;
       one = λ less. sym (low (trailing_zeros w32 whole) less) ∙ found.1;
     }
+
+-- the last set bit, by the zeros above it
+pub LastSet-leading_zeros : (bits : ℕ) → 0 < bits → bits < 2 ^ 32 → LastSet bits (31 - leading_zeros w32 bits)
+LastSet-leading_zeros bits some below =
+    let top = leading_top 32 bits some below in
+    let j : ℕ = top.0 in
+    let place : 31 - leading_zeros w32 bits ≡ j = omega (arith, top.1) in
+    let one : bits / 2 ^ j ≡ 1 = div-eq_of_lt-le {k = 1} (2 ^ j) (omega (arith, top.2)) (omega (arith, top.3, pow-succ' 2 j)) in
+    let set : LastSet bits j = record {
+      one = ap (λ (k : ℕ). k % 2) one;
+      above = λ i after.
+          let grown : 2 ^ suc j ≤ 2 ^ i = pow-le-pow_right (lit< tt) (omega arith) in
+          div-eq_of_lt (omega (arith, grown, top.3));
+    } in
+    subst (LastSet bits) (sym place) set
+
+pub LastSet-below : (k bits n : ℕ) → bits < 2 ^ k → LastSet bits n → n < k
+LastSet-below k bits n below set = elim (cases_lt n k) [
+  | inl less ↦ less
+  | inr past ↦
+      let grown : 2 ^ k ≤ 2 ^ n = pow-le-pow_right (lit< tt) past in
+      let none : bits / 2 ^ n ≡ 0 = div-eq_of_lt (omega (arith, grown, below)) in
+      absurd (omega (arith, set.one, none))
+]
+
+-- a bit of a number's lowest ones
+low-bit : (n j x : ℕ) → j < n → x % 2 ^ n / 2 ^ j % 2 ≡ x / 2 ^ j % 2
+low-bit n j x less =
+    let rest : ℕ = n - suc j in
+    let split : n ≡ suc rest + j = omega arith in
+    let even : 2 ∣ 2 ^ suc rest = subst (λ (k : ℕ). 2 ∣ k) (sym (pow-succ' 2 rest)) (dvd-mul_right 2 (2 ^ rest)) in
+    ap (λ (k : ℕ). x % 2 ^ k / 2 ^ j % 2) split ∙ ap (λ (k : ℕ). k % 2) (field_of x (suc rest) j) ∙ mod-mod_of_dvd 2 (x / 2 ^ j) even
 
 -- a digit of a number
 digit-at : (n i x : ℕ) (d : Bool) → i < n → get_or (binary_digits n x) i d ≡ (x / 2 ^ i % 2 == 1)
@@ -77,3 +109,42 @@ module _ (count width : ℕ) (table code mask : List ℕ) (keeps : Keeps count w
       ∙ sym (at (j - from) (omega (arith, set.most)))
       ∙ ap (λ (k : ℕ). k == 1) (set.zeros (j - from) (omega arith)))
       (λ less. sym (at n less) ∙ ap (λ (k : ℕ). k == 1) (set.one less))
+
+  -- the last set bit of those of the 25 places before tells the nearest instruction before, if there is one
+  module _ (place : ℕ) (far : 25 ≤ place) (within : place < length code) where
+    before-bits : ℕ
+    before-bits = little_number (take 4 (drop ((place - 25) / 8) mask)) / 2 ^ ((place - 25) % 8) % 2 ^ 25
+
+    before-at : (j : ℕ) → place - 25 ≤ j → j < place → mask_bit (program_of count width table code mask) j ≡ (before-bits / 2 ^ (j - (place - 25)) % 2 == 1)
+    unfolding before-bits
+    before-at j after before =
+        let from : ℕ = place - 25 in
+        let number : ℕ = little_number (take 4 (drop (from / 8) mask)) in
+        let i : ℕ = j - from in
+        let here : 8 * (from / 8) + (from % 8 + i) ≡ j = omega arith in
+        ap (mask_bit (program_of count width table code mask)) (sym here)
+        ∙ sym (window-bit (from / 8) (from % 8 + i) (omega (arith, keeps.bits)) (omega arith) (omega arith))
+        ∙ ap (λ (k : ℕ). k % 2 == 1) (sym (shr-shr number (from % 8) i))
+        ∙ ap (λ (k : ℕ). k == 1) (sym (low-bit 25 i (number / 2 ^ (from % 8)) (omega arith)))
+
+    pub begun-window : (bits n : ℕ) → bits ≡ little_number (take 4 (drop ((place - 25) / 8) mask)) / 2 ^ ((place - 25) % 8) % 2 ^ 25 → n < 25 → LastSet bits n
+        → (mask_bit (program_of count width table code mask) (place - 25 + n) ≡ true) × ((j : ℕ) → place - 25 + n < j → j < place → mask_bit (program_of count width table code mask) j ≡ false)
+    unfolding before-bits
+    begun-window bits n is few set = (
+      before-at (place - 25 + n) (omega arith) (omega arith)
+          ∙ ap (λ (k : ℕ). before-bits / 2 ^ k % 2 == 1) (omega arith)
+          ∙ ap (λ (k : ℕ). k / 2 ^ n % 2 == 1) (sym is)
+          ∙ ap (λ (k : ℕ). k == 1) set.one,
+      λ j after before.
+          before-at j (omega arith) before
+          ∙ ap (λ (k : ℕ). k / 2 ^ (j - (place - 25)) % 2 == 1) (sym is)
+          ∙ ap (λ (k : ℕ). k % 2 == 1) (set.above (j - (place - 25)) (omega arith)),
+    )
+
+    pub begun-nowhere : (bits : ℕ) → bits ≡ little_number (take 4 (drop ((place - 25) / 8) mask)) / 2 ^ ((place - 25) % 8) % 2 ^ 25 → bits ≡ 0
+        → (j : ℕ) → j < place → place ≤ j + 25 → mask_bit (program_of count width table code mask) j ≡ false
+    unfolding before-bits
+    begun-nowhere bits is none j before near =
+        before-at j (omega arith) before
+        ∙ ap (λ (k : ℕ). k / 2 ^ (j - (place - 25)) % 2 == 1) (sym is ∙ none)
+        ∙ ap (λ (k : ℕ). k % 2 == 1) (div-eq_of_lt (omega (arith, one-le-pow (j - (place - 25)) 2 (lit< tt))))

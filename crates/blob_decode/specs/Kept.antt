@@ -27,3 +27,8 @@ pub record FirstSet (bits n : ℕ) : Type 0 where
   pub most : n ≤ 24
   pub zeros : (j : ℕ) → j < n → bits / 2 ^ j % 2 ≡ 0
   pub one : n < 24 → bits / 2 ^ n % 2 ≡ 1
+
+-- bit n is the highest that is set
+pub record LastSet (bits n : ℕ) : Type 0 where
+  pub one : bits / 2 ^ n % 2 ≡ 1
+  pub above : (j : ℕ) → n < j → bits / 2 ^ j ≡ 0

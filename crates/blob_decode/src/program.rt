@@ -1,11 +1,11 @@
 // A program in memory.
-ghost use Rattle.std.specs.Prelude.{◌≡◌, ◌<◌, ◌≤◌, ◌+◌, ◌^◌, ℕ, true, false, None, if◌then◌else◌, IfSome, IfNone, IfOk, IfErr, IsErrOf, length, take, drop, slice_get};
+ghost use Rattle.std.specs.Prelude.{◌≡◌, ◌<◌, ◌≤◌, ◌+◌, ◌^◌, ℕ, true, false, None, if◌then◌else◌, IfSome, IfNone, MatchOption, IfOk, IfErr, IsErrOf, length, take, drop, slice_get};
 ghost use Rattle.jam_codec.specs.Spelling.{little_number};
 ghost use Rattle.jam_codec.specs.Format.{Spells};
 ghost use Rattle.blob_decode.specs.declared.program.ProgramRefusal.TheVariants.{NoMemory, NotProgram};
 ghost use Rattle.pvm_isa.specs.Opcodes.{op_numbered};
 ghost use Rattle.blob_decode.specs.Refusal.{IsPlaced};
-ghost use Rattle.blob_decode.specs.Kept.{FirstSet};
+ghost use Rattle.blob_decode.specs.Kept.{FirstSet, LastSet};
 ghost use Rattle.blob_decode.specs.Program.{program_blob, mask_bit, code_byte, op_begins, op_at, gap, skip, is_start, ends_block, ends_before, some_below};
 
 use crate::parts::{parts_of, push_lists};
@@ -93,6 +93,17 @@ fn zeros_before(bits: u32) -> u8
     ensures { FirstSet bits result }
 {
     (bits | 1 << 24).trailing_zeros() as u8
+}
+
+// The highest bit that is set, if one is.
+#[inline]
+fn last_set(bits: u32) -> Option<u32>
+    ensures { MatchOption result (bits ≡ 0) (LastSet bits) }
+{
+    if bits == 0 {
+        return None;
+    }
+    Some(31 - bits.leading_zeros())
 }
 
 impl Program {
@@ -225,19 +236,56 @@ impl Program {
         None
     }
 
+    // The same of the 25 places before, whose bits four bytes of the mask hold.
+    #[inline]
+    fn begun_in_window(&self, place: u64) -> Option<u64>
+        requires far { 25 ≤ place }
+        requires within { place < length self.now.code }
+        ensures before { IfSome result (λ n. n < place) }
+        ensures near { IfSome result (λ n. place ≤ n + 25) }
+        ensures begins { IfSome result (λ n. mask_bit self.now n ≡ true) }
+        ensures nearest { IfSome result (λ n. (j : ℕ) → n < j → j < place → mask_bit self.now j ≡ false) }
+        ensures none { IfNone result ((j : ℕ) → j < place → place ≤ j + 25 → mask_bit self.now j ≡ false) }
+    {
+        let from = place - 25;
+        let bits = (window(&self.mask, (from / 8) as usize) >> (from % 8)) % (1 << 25);
+        match last_set(bits) {
+            Some(n) => Some(from + u64::from(n)),
+            None => None,
+        }
+    }
+
+    // The nearest place before this one at which an instruction begins, at most 25 before.
+    #[inline]
+    fn nearest_before(&self, place: u64) -> Option<u64>
+        requires { place < length self.now.code }
+        ensures before { IfSome result (λ n. n < place) }
+        ensures near { IfSome result (λ n. place ≤ n + 25) }
+        ensures begins { IfSome result (λ n. mask_bit self.now n ≡ true) }
+        ensures nearest { IfSome result (λ n. (j : ℕ) → n < j → j < place → mask_bit self.now j ≡ false) }
+        ensures none { IfNone result ((j : ℕ) → j < place → place ≤ j + 25 → mask_bit self.now j ≡ false) }
+    {
+        if place < 25 {
+            return self.begun_before(place, 25);
+        }
+        self.begun_in_window(place)
+    }
+
     // Whether the nearest instruction before the place ends a block, and the place is right after it.
+    #[inline]
     fn follows_end(&self, place: u64) -> bool
         requires within { place < length self.now.code }
         requires begins { mask_bit self.now place ≡ true }
         ensures { result ≡ some_below (length self.now.code) (ends_before self.now place) }
     {
-        match self.begun_before(place, 25) {
+        match self.nearest_before(place) {
             Some(n) => ends_block(self.code[n as usize]),
             None => false,
         }
     }
 
     /// Whether a block begins at the place, so that a jump may lead there.
+    #[inline]
     #[tactic(auto, unfolding(crate::specs::Program::is_start))]
     pub fn is_start(&self, place: u64) -> bool
         ensures { result ≡ is_start self.now place }
@@ -249,6 +297,7 @@ impl Program {
     }
 
     /// The target in the jump table's entry k; none past its end.
+    #[inline]
     pub fn jump_at(&self, k: u64) -> Option<u64>
         ensures { result ≡ slice_get self.now.jumps k }
     {

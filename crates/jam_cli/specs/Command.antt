@@ -1,10 +1,9 @@
 -- What the words of a command line ask for: one constructor for each line of the table of words.
-use Rattle.std.specs.Prelude.{◌≡◌, ◌≢◌, ℕ, ◌^◌, ◌<◌, List, [], ◌∷◌, map, codes, decimal, String, string_bytes, Option, Some, None, IsTrue}
+use Rattle.std.specs.Prelude.{◌≡◌, ◌≢◌, ℕ, ◌^◌, ◌<◌, List, [], ◌∷◌, map, codes, decimal, String, string_bytes, Option, Some, None}
 use Rattle.std.specs.declared.alloc.Global.{Global}
 use Rattle.jam_codec.specs.Format.{Spells}
-use Rattle.blob_decode.specs.Program.{Program, program_blob, op_at}
-use Rattle.jam_cli.specs.Effect.{is_built}
-use Rattle.jam_cli.specs.History.{answer, raw}
+use Rattle.blob_decode.specs.Program.{Program, program_blob}
+use Rattle.pvm_step.specs.History.{answer, raw}
 use Rattle.jam_cli.specs.Transcript.{block, digest_line, batch_lines}
 use Rattle.blake2b_core.specs.Blake2b.{digest}
 use Rattle.jam_accounts.specs.Accounts.{State}
@@ -68,13 +67,9 @@ ValueOf plain_bytes = List ℕ
 ValueOf services_state = State
 ValueOf batch_of_work = Batch
 
--- no instruction has an opcode that is defined, and not built
-abbrev pub IsBuilt : Program → Type 0
-IsBuilt p = (i : ℕ) → IsTrue (is_built (op_at p i))
-
 -- bytes spell a value of a kind
 abbrev pub SpellsValue : (kind : Kind) → ValueOf kind → List ℕ → Type 0
-SpellsValue raw_program p bytes = Spells program_blob p bytes × IsBuilt p
+SpellsValue raw_program p bytes = Spells program_blob p bytes
 SpellsValue plain_bytes value bytes = value ≡ bytes
 SpellsValue services_state state bytes = Spells state_format state bytes
 SpellsValue batch_of_work batch bytes = Spells batch_format batch bytes

@@ -1,5 +1,5 @@
 -- What the parts of a call say.
-use Rattle.std.specs.Prelude.{◌≡◌, ℕ, ◌≤◌, List, Option, Some, option_map, IfSome, Result, Ok, Err}
+use Rattle.std.specs.Prelude.{◌≡◌, ℕ, ◌<◌, ◌≤◌, ◌^◌, List, Option, Some, option_map, IfSome, Result, Ok, Err}
 use Rattle.jam_outside.specs.Causes.{VaultState, SinkState, Rose, AppendsPrefix}
 use Rattle.jam_outside.specs.declared.whole.ReadRefusal.{ReadRefusal}
 use Rattle.jam_outside.specs.declared.whole.ReadRefusal.TheVariants as read
@@ -16,6 +16,11 @@ abbrev pub asked : parsed.Command → Command
 asked (line.Run blob gas) = run blob.now gas
 asked (line.Hash file) = hash file.now
 asked (line.Accumulate state batch posterior) = accumulate state.now batch.now posterior.now 0
+
+-- the gas of a run is below 2 ^ 63
+abbrev pub HasSmallGas : parsed.Command → Type 0
+HasSmallGas (line.Run blob gas) = gas < 2 ^ 63
+HasSmallGas command = Unit {0}
 
 abbrev pub status_of : {X : Type 0} → Result X Status → Status
 status_of (Ok x) = Done

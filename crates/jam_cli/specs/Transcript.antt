@@ -3,9 +3,9 @@ use Rattle.std.specs.Prelude.{ℕ, ◌+◌, List, [], ◌∷◌, ◌++◌, lengt
 use Rattle.std.specs.FinMap as fin
 use Rattle.hex.specs.Hex.{encode_lower}
 use Rattle.batch_accumulate.specs.declared.posterior.Posterior.{Posterior}
-use Rattle.jam_cli.specs.declared.exit.Exit.{Exit}
-use Rattle.jam_cli.specs.declared.exit.Exit.TheVariants.{Halt, Panic, OutOfGas, Fault, Host}
-use Rattle.jam_cli.specs.History.{Moment, output}
+use Rattle.pvm_step.specs.declared.exit.Exit.{Exit}
+use Rattle.pvm_step.specs.declared.exit.Exit.TheVariants.{Halt, Panic, OutOfGas, Fault, Host}
+use Rattle.pvm_step.specs.History.{Moment, output_of}
 
 -- a name, a blank and a number
 abbrev pub number_line : List ℕ → ℕ → List ℕ
@@ -41,7 +41,7 @@ last_exit_line (Some exit) = exit_line exit
 -- the block of an outcome
 unfoldable pub block : Moment → List ℕ
 block m = last_exit_line m.exit ++ (number_line (codes "pc") m.state.pc ++ (number_line (codes "gas") m.gas
-    ++ (register_lines 0 m.state.registers ++ output_line (output m))))
+    ++ (register_lines 0 m.state.registers ++ output_line (output_of m))))
 
 -- a digest
 abbrev pub digest_line : List ℕ → List ℕ

@@ -1,10 +1,10 @@
 // What each command gives of its files.
-ghost use Rattle.std.specs.Prelude.{◌≡◌, IfOk, IfErr, string_bytes, Some};
+ghost use Rattle.std.specs.Prelude.{◌≡◌, ◌<◌, ◌^◌, IfOk, IfErr, string_bytes, Some};
 ghost use Rattle.blake2b_core.specs.Blake2b.{digest};
 ghost use Rattle.jam_cli.specs.Command.{run, hash, accumulate, SpellsValue, services_state, batch_of_work, posterior_bytes};
 ghost use Rattle.jam_cli.specs.Transcript.{batch_lines};
 ghost use Rattle.batch_accumulate.specs.Batch.{posterior_of};
-ghost use Rattle.jam_cli.specs.Parts.{asked, entry_of, Makes, EndsEarly};
+ghost use Rattle.jam_cli.specs.Parts.{asked, HasSmallGas, entry_of, Makes, EndsEarly};
 
 use crate::input::{batch_of, program_of, read_input, read_two_inputs, state_of};
 use crate::product::{Product, Stored};
@@ -27,6 +27,7 @@ fn run<'a, V: Vault>(
     gas: u64,
     vault: &mut V,
 ) -> Result<Product<'a>, Status>
+    requires { gas < 2 ^ 63 }
     ensures made { IfOk result (λ product. Makes (V.state vault.old) (V.state vault.new) (run blob.now gas) (string_bytes product.text) (entry_of product.stored)) }
     ensures early { IfErr result (λ status. EndsEarly status (run blob.now gas) (V.state vault.old) (V.state vault.new)) }
 {
@@ -93,6 +94,7 @@ pub fn product_of<'a, V: Vault>(
     command: Command<'a>,
     vault: &mut V,
 ) -> Result<Product<'a>, Status>
+    requires { HasSmallGas command.entry }
     ensures made { IfOk result (λ product. Makes (V.state vault.old) (V.state vault.new) (asked command.entry) (string_bytes product.text) (entry_of product.stored)) }
     ensures early { IfErr result (λ status. EndsEarly status (asked command.entry) (V.state vault.old) (V.state vault.new)) }
 {

@@ -1,15 +1,14 @@
 // The files that a command reads, and the values that they spell.
-ghost use Rattle.std.specs.Prelude.{◌≡◌, ◌≤◌, [], ◌∷◌, length, IfOk, IfErr, IfSome, IsTrue, ◌↔◌, List, ℕ};
+ghost use Rattle.std.specs.Prelude.{◌≡◌, ◌≤◌, [], ◌∷◌, length, IfOk, IfErr, IfSome};
 ghost use Rattle.jam_outside.specs.Files.{content};
-ghost use Rattle.jam_cli.specs.Command.{Kind, SpellsValue, raw_program, services_state, batch_of_work, IsBuilt, Input};
+ghost use Rattle.jam_cli.specs.Command.{Kind, SpellsValue, raw_program, services_state, batch_of_work, Input};
 ghost use Rattle.jam_cli.specs.Ending.{limit};
-ghost use Rattle.jam_cli.specs.Effect.{is_built};
 ghost use Rattle.jam_cli.specs.Parts.{NotRead, NotSpelled, AfterInputs, read_status};
 
 use crate::status::Status;
 use crate::words::is_text;
 use batch_file::{Batch, read_batch};
-use blob_decode::{Op, Program, ProgramRefusal};
+use blob_decode::{Program, ProgramRefusal};
 use jam_accounts::State;
 use jam_codec::FileRefusal;
 use jam_outside::{ReadRefusal, Vault, read_whole};
@@ -69,55 +68,15 @@ pub fn read_two_inputs<V: Vault>(
     Ok((bytes, more))
 }
 
-// Whether no instruction has an opcode that is defined, and not built.
-fn is_built(program: &Program) -> bool
-    ensures { IsTrue result ↔ IsBuilt program.now }
-{
-    let size = program.code().len() as u64;
-    for place in 0..size {
-        if !has_effect(program.op_at(place)) {
-            return false;
-        }
-    }
-    true
-}
-
-// Whether the machine has this opcode.
-#[tactic(auto, unfolding(crate::specs::Effect::line))]
-fn has_effect(op: Op) -> bool
-    ensures { result ≡ is_built op }
-{
-    matches!(
-        op,
-        Op::Trap
-            | Op::Fallthrough
-            | Op::Ecalli
-            | Op::Jump
-            | Op::JumpInd
-            | Op::LoadImm
-            | Op::MoveReg
-            | Op::BranchEq
-            | Op::BranchNe
-            | Op::Add64
-            | Op::Sub64
-    )
-}
-
-/// The program that bytes spell, with built opcodes alone.
+/// The program that bytes spell.
 pub fn program_of(alloc: Global, bytes: &[u8], word: u8) -> Result<Program, Status>
     ensures spelled { IfOk result (λ program. SpellsValue raw_program program bytes.now) }
     ensures not_spelled { IfErr result (λ status. NotSpelled status word raw_program bytes.now) }
 {
     match Program::deblob(alloc, bytes) {
+        Ok(program) => Ok(program),
         Err(ProgramRefusal::NoMemory) => Err(Status::NoMemory),
         Err(ProgramRefusal::NotProgram { .. }) => Err(Status::Refused { word, place: 0 }),
-        Ok(program) => {
-            if is_built(&program) {
-                Ok(program)
-            } else {
-                Err(Status::Refused { word, place: 0 })
-            }
-        }
     }
 }
 

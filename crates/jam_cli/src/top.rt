@@ -2,7 +2,7 @@
 ghost use Rattle.std.specs.Prelude.{◌≡◌};
 ghost use Rattle.jam_cli.specs.Command.{texts};
 ghost use Rattle.jam_cli.specs.Ending.{Ends, CallEnds, call, DoneMeans, BadWordsMeans, BadWordsComes, ReadFaultMeans, TooLongMeans, TooLongComes, RefusedMeans, RefusedComes, SinkFaultMeans, StoreFaultMeans, NoMemoryMeans, SilentMeans, OthersKeepFiles, InputsKept, ServedIsDone};
-ghost use Rattle.jam_cli.specs.Parts.{asked, status_of};
+ghost use Rattle.jam_cli.specs.Parts.{asked, HasSmallGas, status_of};
 ghost use Rattle.jam_cli.specs.declared.status.Status.TheVariants.{NoMemory};
 
 use crate::commands::product_of;
@@ -28,6 +28,7 @@ fn carry_out<V: Vault, S: Sink>(
     vault: &mut V,
     out: &mut S,
 ) -> Result<(), Status>
+    requires { HasSmallGas command.entry }
     ensures { Ends (status_of result) (asked command.entry) (call (V.state vault.old) (V.state vault.new) (S.state out.old) (S.state out.new)) }
 {
     let product = product_of(alloc, command, vault)?;

@@ -1,14 +1,14 @@
 // The lines that are printed.
-ghost use Rattle.std.specs.Prelude.{◌≡◌, ◌++◌, OnOk, IfOk, string_bytes, codes, Some};
-ghost use Rattle.jam_cli.specs.Transcript.{number_line, exit_line, register_lines, block, digest_line, batch_lines};
-ghost use Rattle.jam_cli.specs.History.{answer, raw};
-ghost use Rattle.jam_cli.specs.Machine.{moment};
+ghost use Rattle.std.specs.Prelude.{◌≡◌, ◌<◌, ◌^◌, ◌++◌, OnOk, IfOk, string_bytes, codes, Some};
+ghost use Rattle.jam_cli.specs.Transcript.{number_line, exit_line, register_lines, output_line, block, digest_line, batch_lines};
+ghost use Rattle.pvm_step.specs.History.{answer, raw, output_of};
+ghost use Rattle.pvm_step.specs.Machine.{moment};
 
-use crate::exit::Exit;
-use crate::machine::Machine;
 use batch_accumulate::Posterior;
 use blob_decode::Program;
+use pvm_step::{Exit, Machine, Progress};
 use std::alloc::{AllocError, Global};
+use std::rc::Rc;
 
 fn push_number(text: &mut String, name: &str, number: u64) -> Result<(), AllocError>
     ensures { OnOk result (string_bytes text.new ≡ string_bytes text.old ++ number_line name.now number) }
@@ -37,27 +37,54 @@ fn push_registers(text: &mut String, registers: &[u64]) -> Result<(), AllocError
     Ok(())
 }
 
-// The block of an outcome. A machine without memory has no output.
+// The line of an output: its length, and its first bytes.
+fn push_output(alloc: Global, text: &mut String, output: &[u8]) -> Result<(), AllocError>
+    ensures { OnOk result (string_bytes text.new ≡ string_bytes text.old ++ output_line output.now) }
+{
+    let len = output.len();
+    if len == 0 {
+        return writeln!(text, "output {len} -");
+    }
+    let front = hex::encode(alloc, &output[..len.min(64)])?;
+    writeln!(text, "output {len} {front}")
+}
+
+// The output of a machine that ended so; of one that did not halt it is empty.
+fn output_of(alloc: Global, machine: &Machine, exit: Exit) -> Result<Vec<u8>, AllocError>
+    ensures { IfOk result (λ bytes. bytes.items ≡ output_of (moment machine.now (Some exit))) }
+{
+    match exit {
+        Exit::Halt => machine.output(),
+        Exit::Panic | Exit::OutOfGas | Exit::Fault(_) | Exit::Host(_) => Ok(Vec::new(alloc)),
+    }
+}
+
+// The block of an outcome.
 #[tactic(auto, unfolding(crate::specs::Transcript::block))]
 fn block_of(alloc: Global, machine: &Machine, exit: Exit) -> Result<String, AllocError>
     ensures { IfOk result (λ text. string_bytes text ≡ block (moment machine.now (Some exit))) }
 {
     let mut text = String::new(alloc);
+    let output = output_of(alloc, machine, exit)?;
     push_exit(&mut text, exit)?;
     push_number(&mut text, "pc", machine.pc)?;
-    push_number(&mut text, "gas", machine.gas)?;
+    push_number(&mut text, "gas", machine.ledger.left())?;
     push_registers(&mut text, &machine.registers)?;
-    text.push_str("output 0 -\n")?;
+    push_output(alloc, &mut text, &output)?;
     Ok(text)
 }
 
 /// The block of the outcome of a program's run from place 0.
 pub fn outcome_of(alloc: Global, program: Program, gas: u64) -> Result<String, AllocError>
+    requires { gas < 2 ^ 63 }
     ensures { IfOk result (λ text. string_bytes text ≡ block (answer program gas (raw 0))) }
 {
-    let mut machine = Machine::raw(program, 0, gas);
-    let exit = machine.run();
-    block_of(alloc, &machine, exit)
+    let mut machine = Machine::raw(alloc, Rc::new(alloc, program)?, 0, gas);
+    // One attempt more than the gas pays for is the end.
+    match machine.run(gas + 1)? {
+        Progress::Ended(exit) => block_of(alloc, &machine, exit),
+        Progress::Paused => unreachable!(),
+    }
 }
 
 /// The line of a digest.

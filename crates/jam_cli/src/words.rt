@@ -1,7 +1,7 @@
 // The words of a command line.
-ghost use Rattle.std.specs.Prelude.{◌≡◌, ◌≢◌, ◌<◌, ◌^◌, ℕ, IfOk, MatchOption, IsTrue, ◌↔◌};
+ghost use Rattle.std.specs.Prelude.{◌≡◌, ◌≢◌, ◌<◌, ◌^◌, ℕ, IfOk, IfSome, MatchOption, IsTrue, ◌↔◌};
 ghost use Rattle.jam_cli.specs.Command.{Asks, AsksNothing, IsName, IsNumber, texts, run, hash, accumulate};
-ghost use Rattle.jam_cli.specs.Parts.{asked};
+ghost use Rattle.jam_cli.specs.Parts.{asked, HasSmallGas};
 
 use std::alloc::{AllocError, Global};
 
@@ -51,7 +51,8 @@ fn number_of(alloc: Global, word: &str) -> Result<Option<u64>, AllocError>
 }
 
 fn run_of<'a>(alloc: Global, blob: &'a str, gas: &str) -> Result<Option<Command<'a>>, AllocError>
-    ensures { IfOk result (λ found. MatchOption found
+    ensures small { IfOk result (λ found. IfSome found HasSmallGas) }
+    ensures asked { IfOk result (λ found. MatchOption found
         ((n : ℕ) → IsName blob.now → IsNumber n gas.now → ⊥)
         (λ command. (n : ℕ) × (asked command ≡ run blob.now n) × IsName blob.now × IsNumber n gas.now)) }
 {
@@ -112,7 +113,8 @@ fn accumulate_of<'a>(
 
 /// The command that has these words, if there is one.
 pub fn command_of(alloc: Global, words: &[String]) -> Result<Option<Command<'_>>, AllocError>
-    ensures { IfOk result (λ found. MatchOption found (AsksNothing (texts words.now)) (λ command. Asks (asked command) (texts words.now))) }
+    ensures asked { IfOk result (λ found. MatchOption found (AsksNothing (texts words.now)) (λ command. Asks (asked command) (texts words.now))) }
+    ensures small { IfOk result (λ found. IfSome found HasSmallGas) }
 {
     match words {
         [command, blob, gas] if is_text(command.as_str(), "run") => {
