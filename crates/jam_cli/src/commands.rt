@@ -94,7 +94,7 @@ pub fn product_of<'a, V: Vault>(
     command: Command<'a>,
     vault: &mut V,
 ) -> Result<Product<'a>, Status>
-    requires { HasSmallGas command.entry }
+    requires { HasSmallGas command }
     ensures made { IfOk result (λ product. Makes (V.state vault.old) (V.state vault.new) (asked command.entry) (string_bytes product.text) (entry_of product.stored)) }
     ensures early { IfErr result (λ status. EndsEarly status (asked command.entry) (V.state vault.old) (V.state vault.new)) }
 {

@@ -40,7 +40,7 @@ fn block(alloc: Global, head: &str, r0: u64, r1: u64, r7: u64) -> Result<String,
 fn runs_print_the_blocks_of_the_worked_examples(rt: HostRuntime) -> Result<(), Fail> {
     let alloc = rt.alloc();
     let start = u64::MAX - 65_535;
-    let rows: [(&[u8], &str, &str, u64, u64, u64); 9] = [
+    let rows: [(&[u8], &str, &str, u64, u64, u64); 12] = [
         (&FIRST_RUN, "100", "exit halt\npc 8\ngas 97", start, 0, 42),
         (
             &FIRST_RUN,
@@ -88,6 +88,31 @@ fn runs_print_the_blocks_of_the_worked_examples(rt: HostRuntime) -> Result<(), F
             b"\0\0\x02\x0a\x07\x01",
             "10",
             "exit host 7\npc 0\ngas 9",
+            0,
+            0,
+            0,
+        ),
+        // load_u32 r1 at 2^32 - 2, and load_u8 r1 at 65536; sbrk r2, r8
+        (
+            b"\0\0\x03\x38\x01\xfe\x01",
+            "10",
+            "exit panic\npc 0\ngas 9",
+            0,
+            0,
+            0,
+        ),
+        (
+            b"\0\0\x05\x34\x01\0\0\x01\x01",
+            "10",
+            "exit fault 65536\npc 0\ngas 9",
+            0,
+            0,
+            0,
+        ),
+        (
+            b"\0\0\x02\x65\x82\x01",
+            "10",
+            "exit panic\npc 2\ngas 8",
             0,
             0,
             0,
@@ -172,7 +197,7 @@ fn other_words_and_other_blobs_are_refused(rt: HostRuntime) -> Result<(), Fail> 
     let alloc = rt.alloc();
     let refused = Status::Refused { word: 1, place: 0 };
     let run: &[&str] = &["run", "blob", "7"];
-    let rows: [(&[&str], &[u8], Status); 14] = [
+    let rows: [(&[&str], &[u8], Status); 13] = [
         (&[], &FIRST_RUN, Status::BadWords),
         (&["run", "blob"], &FIRST_RUN, Status::BadWords),
         (&["run", "blob", "7", "7"], &FIRST_RUN, Status::BadWords),
@@ -189,8 +214,7 @@ fn other_words_and_other_blobs_are_refused(rt: HostRuntime) -> Result<(), Fail> 
         (run, &FIRST_RUN[..14], refused),
         (run, &[0, 9, 0], refused),
         (run, b"\xff\xff\xff\xff\xff\xff\xff\xff\xff\x08\0", refused),
-        // load_imm_64 is defined, and not built; 2 is not defined, and acts as trap
-        (run, &[0, 0, 1, 20, 1], refused),
+        // 2 is not defined, and acts as trap
         (run, &[0, 0, 1, 2, 1], Status::Done),
     ];
     for (words, blob, status) in rows {

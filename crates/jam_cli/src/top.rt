@@ -28,7 +28,7 @@ fn carry_out<V: Vault, S: Sink>(
     vault: &mut V,
     out: &mut S,
 ) -> Result<(), Status>
-    requires { HasSmallGas command.entry }
+    requires { HasSmallGas command }
     ensures { Ends (status_of result) (asked command.entry) (call (V.state vault.old) (V.state vault.new) (S.state out.old) (S.state out.new)) }
 {
     let product = product_of(alloc, command, vault)?;

@@ -1,6 +1,6 @@
 // The lines that are printed.
 ghost use Rattle.std.specs.Prelude.{◌≡◌, ◌<◌, ◌^◌, ◌++◌, OnOk, IfOk, string_bytes, codes, Some};
-ghost use Rattle.jam_cli.specs.Transcript.{number_line, exit_line, register_lines, output_line, block, digest_line, batch_lines};
+ghost use Rattle.jam_cli.specs.Transcript.{number_line, exit_line, register_lines, front, output_line, block, digest_line, batch_lines};
 ghost use Rattle.pvm_step.specs.History.{answer, raw, output_of};
 ghost use Rattle.pvm_step.specs.Machine.{moment};
 
@@ -37,15 +37,22 @@ fn push_registers(text: &mut String, registers: &[u64]) -> Result<(), AllocError
     Ok(())
 }
 
+// The first bytes of an output, or a dash where there are none.
+fn front_of(alloc: Global, output: &[u8]) -> Result<String, AllocError>
+    ensures { IfOk result (λ text. string_bytes text ≡ front output.now) }
+{
+    if output.is_empty() {
+        return String::from_str(alloc, "-");
+    }
+    hex::encode(alloc, &output[..output.len().min(64)])
+}
+
 // The line of an output: its length, and its first bytes.
 fn push_output(alloc: Global, text: &mut String, output: &[u8]) -> Result<(), AllocError>
     ensures { OnOk result (string_bytes text.new ≡ string_bytes text.old ++ output_line output.now) }
 {
+    let front = front_of(alloc, output)?;
     let len = output.len();
-    if len == 0 {
-        return writeln!(text, "output {len} -");
-    }
-    let front = hex::encode(alloc, &output[..len.min(64)])?;
     writeln!(text, "output {len} {front}")
 }
 
@@ -74,17 +81,26 @@ fn block_of(alloc: Global, machine: &Machine, exit: Exit) -> Result<String, Allo
     Ok(text)
 }
 
+// A program's machine at the end of its run from place 0, and how it ended.
+fn ended_machine(alloc: Global, program: Program, gas: u64) -> Result<(Machine, Exit), AllocError>
+    requires { gas < 2 ^ 63 }
+    ensures { IfOk result (λ ended. moment ended.0 (Some ended.1) ≡ answer program gas (raw 0)) }
+{
+    let mut machine = Machine::raw(alloc, Rc::new(alloc, program)?, 0, gas);
+    // One attempt more than the gas pays for is the end.
+    match machine.run(gas + 1)? {
+        Progress::Ended(exit) => Ok((machine, exit)),
+        Progress::Paused => unreachable!(),
+    }
+}
+
 /// The block of the outcome of a program's run from place 0.
 pub fn outcome_of(alloc: Global, program: Program, gas: u64) -> Result<String, AllocError>
     requires { gas < 2 ^ 63 }
     ensures { IfOk result (λ text. string_bytes text ≡ block (answer program gas (raw 0))) }
 {
-    let mut machine = Machine::raw(alloc, Rc::new(alloc, program)?, 0, gas);
-    // One attempt more than the gas pays for is the end.
-    match machine.run(gas + 1)? {
-        Progress::Ended(exit) => block_of(alloc, &machine, exit),
-        Progress::Paused => unreachable!(),
-    }
+    let (machine, exit) = ended_machine(alloc, program, gas)?;
+    block_of(alloc, &machine, exit)
 }
 
 /// The line of a digest.

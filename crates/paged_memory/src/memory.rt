@@ -44,6 +44,11 @@ impl Memory {
         }
     }
 
+    /// Where its memory comes from.
+    pub fn allocator(&self) -> Global {
+        self.alloc
+    }
+
     /// The rights of a page, by its number.
     #[inline]
     pub fn rights(&self, page: u32) -> Rights

@@ -1,0 +1,11 @@
+use Rattle.pvm_step.proofs.Named.{leaves-registers, leaves-memory, leaves-bytes}
+use Rattle.pvm_step.proofs.laws.effect_laws.Goals as goal
+
+pub returns-clause-registers : goal.returns-clause-registers
+returns-clause-registers c = leaves-registers
+
+pub returns-clause-memory : goal.returns-clause-memory
+returns-clause-memory c = leaves-memory
+
+pub returns-clause-bytes : goal.returns-clause-bytes
+returns-clause-bytes c = leaves-bytes

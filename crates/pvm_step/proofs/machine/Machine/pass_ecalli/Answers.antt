@@ -1,0 +1,15 @@
+use Rattle.std.proofs.Common.{ℕ, ◌<◌, length, ap, arith}
+use Rattle.blob_decode.specs.Program.{Program}
+use Rattle.pvm_step.specs.Machine.{Machine}
+use Rattle.pvm_step.proofs.Effects.{within-ecalli}
+use Rattle.pvm_step.proofs.machine.Machine.pass_ecalli.Goals as goal
+
+pub go_on-requires-clause-place : goal.go_on-requires-clause-place
+go_on-requires-clause-place c =
+    omega (
+      arith,
+      within-ecalli c.args.self.now.program c.args.self.now.pc c.requires,
+      c.code-code.ensures.small,
+      ap (λ (p : Program). length p.code) c.deref.ensures,
+      ap (λ (m : Machine). length m.program.code) c.self.view_is,
+    )

@@ -1,0 +1,29 @@
+use Rattle.std.proofs.Common.{◌≡◌, ap, sym, ◌∙◌, subst, refl, Some, None, Ok, Err}
+use Rattle.std.specs.Prelude.{◌↔◌}
+use Rattle.paged_memory.specs.declared.rights.Rights.TheVariants as may
+use Rattle.paged_memory.specs.declared.access.Access.{Access}
+use Rattle.paged_memory.specs.declared.access.StoreRefusal.TheVariants as refused
+use Rattle.paged_memory.specs.PageMap.{Memory, refusal}
+use Rattle.blob_decode.specs.Program.{next}
+use Rattle.pvm_step.specs.Machine.{Machine, state_of, after_of}
+use Rattle.pvm_step.specs.contracts.machine.Machine.{the_view}
+use Rattle.pvm_step.specs.declared.exit.Exit.{Exit}
+use Rattle.pvm_step.specs.Effect.{after, Stores, goes, stops, exit_of}
+use Rattle.pvm_step.proofs.Effects.{stored-at, refused-at, allowed, forbidden}
+use Rattle.pvm_step.proofs.machine.Machine.store.Goals as goal
+
+pub returns-in-Ok-clause-acts : goal.returns-in-Ok-clause-acts
+returns-in-Ok-clause-acts c =
+    let v : Machine = the_view c.self.inside in
+    ap (λ (m : Machine). after_of m None) c.go_on.ensures
+    ∙ ap (λ (m : Memory). goes (record (state_of v) { memory = m }) (next v.program v.pc)) c.in-Ok.ensures.ok
+    ∙ sym (stored-at v.program (state_of v) c.args.width c.args.to c.args.value (allowed v.memory c.args.to c.args.width c.store.result c.in-Ok.field-0 c.in-Ok.is c.store.ensures.refused))
+    ∙ ap (λ (m : Machine). after m.program (state_of m) (Stores c.args.width c.args.to c.args.value)) c.self.view_is
+
+pub returns-in-Err-Access-clause-acts : goal.returns-in-Err-Access-clause-acts
+returns-in-Err-Access-clause-acts c =
+    let v : Machine = the_view c.self.inside in
+    ap (λ (m : Memory). stops (record (state_of v) { memory = m }) c.exit_of.result) c.in-Err-Access.ensures.err
+    ∙ ap (λ (e : Exit). stops (state_of v) e) c.exit_of.ensures
+    ∙ sym (refused-at v.program (state_of v) c.args.width c.args.to c.args.value c.in-Err-Access.access (forbidden v.memory c.args.to c.args.width c.store.result c.in-Err-Access.field-0 c.in-Err-Access.access c.in-Err-Access.is c.in-Err-Access.field-0-is c.store.ensures.refused))
+    ∙ ap (λ (m : Machine). after m.program (state_of m) (Stores c.args.width c.args.to c.args.value)) c.self.view_is

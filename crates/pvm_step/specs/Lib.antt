@@ -1,0 +1,4 @@
+pub mod Effect
+pub mod History
+pub mod Machine
+pub mod Named

@@ -1,0 +1,52 @@
+-- The machine of the code as the definitions see it.
+use Rattle.std.specs.Prelude.{◌≡◌, ℕ, ◌≤◌, ◌⊎◌, ◌^◌, List, Bool, Option, Some, None, refl}
+use Rattle.std.specs.Coded.{Coded, code_by, coded×, coded_ℕ, coded_bool, coded_list}
+use Rattle.blob_decode.specs.Program.{Program}
+use Rattle.paged_memory.specs.PageMap.{Memory}
+use Rattle.paged_memory.specs.Codes.{memory_code}
+use Rattle.pvm_step.specs.declared.exit.Exit.{Exit}
+use Rattle.pvm_step.specs.declared.exit.Progress.{Progress}
+use Rattle.pvm_step.specs.declared.exit.Progress.TheVariants.{Ended, Paused}
+use Rattle.pvm_step.specs.Effect.{State, Heap, After}
+use Rattle.pvm_step.specs.History.{Moment}
+
+-- a program with a place in it, registers, a memory, a heap, and the gas left
+pub record Machine : Type 0 where
+  pub program : Program
+  pub pc : ℕ
+  pub registers : List ℕ
+  pub memory : Memory
+  pub heap : Heap
+  pub gas : ℕ
+
+abbrev pub state_of : Machine → State
+state_of m = record { pc = m.pc; registers = m.registers; memory = m.memory; heap = m.heap }
+
+abbrev pub after_of : Machine → Option Exit → After
+after_of m exit = record { state = state_of m; exit = exit }
+
+abbrev pub moment : Machine → Option Exit → Moment
+moment m exit = record { state = state_of m; gas = m.gas; exit = exit }
+
+-- the exit of a run, if it ended
+abbrev pub exit_in : Progress → Option Exit
+exit_in (Ended exit) = Some exit
+exit_in Paused = None
+
+-- no heap, or one above the 16 lowest pages and within the 2 ^ 32 addresses
+abbrev pub IsHeap : ℕ → ℕ → Type 0
+IsHeap next end = ((next ≡ 0) × (end ≡ 0)) ⊎ ((65536 ≤ next) × (next ≤ end) × (end ≤ 2 ^ 32))
+
+-- ---- Codes of these values
+
+abbrev pub heap_code : Coded Heap
+heap_code = code_by (ℕ × ℕ) (coded× coded_ℕ coded_ℕ) (λ h. (h.next, h.end)) (λ h. record { next = h.0; end = h.1 }) (λ _. refl)
+
+abbrev pub program_code : Coded Program
+program_code = code_by (ℕ × (List ℕ × (List ℕ × List Bool))) (coded× coded_ℕ (coded× (coded_list coded_ℕ) (coded× (coded_list coded_ℕ) (coded_list coded_bool))))
+    (λ p. (p.width, (p.jumps, (p.code, p.mask)))) (λ p. record { width = p.0; jumps = p.1.0; code = p.1.1.0; mask = p.1.1.1 }) (λ _. refl)
+
+abbrev pub machine_code : Coded Machine
+machine_code = code_by (Program × (ℕ × (List ℕ × (Memory × (Heap × ℕ))))) (coded× program_code (coded× coded_ℕ (coded× (coded_list coded_ℕ) (coded× memory_code (coded× heap_code coded_ℕ)))))
+    (λ m. (m.program, (m.pc, (m.registers, (m.memory, (m.heap, m.gas))))))
+    (λ m. record { program = m.0; pc = m.1.0; registers = m.1.1.0; memory = m.1.1.1.0; heap = m.1.1.1.1.0; gas = m.1.1.1.1.1 }) (λ _. refl)

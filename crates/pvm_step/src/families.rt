@@ -1,0 +1,210 @@
+// Instructions that many opcodes have in common.
+ghost use Rattle.std.specs.Prelude.{◌≡◌, ◌<◌, ◌≤◌, ◌+◌, ◌==◌, not, IsTrue, None, length, IfOk, OnErr};
+ghost use Rattle.pvm_isa.specs.Arguments.{arguments};
+ghost use Rattle.pvm_isa.specs.declared.form.Form.TheVariants.{F2, F3, F4, F5, F6, F7, F8, F9, F10, F11, F12, F13};
+ghost use Rattle.blob_decode.specs.Program as blob;
+ghost use Rattle.paged_memory.specs.PageMap.{is_width};
+ghost use Rattle.pvm_alu.specs.Alu as alu;
+ghost use Rattle.pvm_step.specs.declared.exit.Exit.TheVariants.{Host};
+ghost use Rattle.pvm_step.specs.Effect.{Nothing, Exits, Gives, Jumps, JumpsThrough, GivesAndJumps, GivesAndJumpsThrough, Moves, Grows, gives_of_a, gives_of_a_b, gives_of_b_x, loads_at_x, loads_at_b_x, stores_y_at_x, stores_a_at_x, stores_y_at_a_x, stores_a_at_b_x, branches_on_a_x, branches_on_a_b, after, address, value_in};
+ghost use Rattle.pvm_step.specs.Machine.{state_of, after_of};
+
+use crate::address::{address, address_from};
+use crate::exit::Exit;
+use crate::machine::Machine;
+use pvm_alu::{binary, test, unary};
+use pvm_isa::{
+    Op, one_immediate, one_offset, register_and_immediate, register_and_two_immediates,
+    register_and_wide_immediate, register_immediate_and_offset, three_registers, two_immediates,
+    two_registers, two_registers_and_immediate, two_registers_and_offset,
+    two_registers_and_two_immediates,
+};
+use std::alloc::AllocError;
+
+impl Machine {
+    /// An operation with the values of two registers.
+    #[inline]
+    pub(crate) fn give_of_a_b(&mut self, op: Op, skip: u8) -> Option<Exit>
+        requires operation { IsTrue (alu.is_binary op) }
+        requires within { self.old.pc < length self.old.program.code }
+        requires skip { skip ≡ blob.skip self.old.program self.old.pc }
+        requires short { skip ≤ 24 }
+        ensures acts { after_of self.new result ≡ after self.old.program (state_of self.old) (gives_of_a_b op (arguments F13 self.old.program.code self.old.pc skip) (state_of self.old)) }
+        ensures program { self.new.program ≡ self.old.program }
+        ensures gas { self.new.gas ≡ self.old.gas }
+    {
+        let at = three_registers(self.program.code(), self.pc);
+        let value = binary(op, self.value(at.a), self.value(at.b));
+        self.give(at.d, value, skip);
+        None
+    }
+
+    /// An operation with the value of a register and an immediate.
+    #[inline]
+    pub(crate) fn give_of_b_x(&mut self, op: Op, skip: u8) -> Option<Exit>
+        requires operation { IsTrue (alu.is_binary op) }
+        requires within { self.old.pc < length self.old.program.code }
+        requires skip { skip ≡ blob.skip self.old.program self.old.pc }
+        requires short { skip ≤ 24 }
+        ensures acts { after_of self.new result ≡ after self.old.program (state_of self.old) (gives_of_b_x op (arguments F10 self.old.program.code self.old.pc skip) (state_of self.old)) }
+        ensures program { self.new.program ≡ self.old.program }
+        ensures gas { self.new.gas ≡ self.old.gas }
+    {
+        let at = two_registers_and_immediate(self.program.code(), self.pc, skip);
+        let value = binary(op, self.value(at.b), at.x);
+        self.give(at.a, value, skip);
+        None
+    }
+
+    /// An operation with the value of a register.
+    #[inline]
+    pub(crate) fn give_of_a(&mut self, op: Op, skip: u8) -> Option<Exit>
+        requires operation { IsTrue (alu.is_unary op) }
+        requires within { self.old.pc < length self.old.program.code }
+        requires skip { skip ≡ blob.skip self.old.program self.old.pc }
+        requires short { skip ≤ 24 }
+        ensures acts { after_of self.new result ≡ after self.old.program (state_of self.old) (gives_of_a op (arguments F9 self.old.program.code self.old.pc skip) (state_of self.old)) }
+        ensures program { self.new.program ≡ self.old.program }
+        ensures gas { self.new.gas ≡ self.old.gas }
+    {
+        let at = two_registers(self.program.code(), self.pc);
+        let value = unary(op, self.value(at.a));
+        self.give(at.d, value, skip);
+        None
+    }
+
+    /// A load at an immediate address.
+    #[inline]
+    pub(crate) fn load_at_x(&mut self, op: Op, width: u8, skip: u8) -> Option<Exit>
+        requires loads { IsTrue (alu.is_load op) }
+        requires width { alu.loaded_bytes op ≡ width }
+        requires size { IsTrue (is_width width) }
+        requires within { self.old.pc < length self.old.program.code }
+        requires skip { skip ≡ blob.skip self.old.program self.old.pc }
+        requires short { skip ≤ 24 }
+        ensures acts { after_of self.new result ≡ after self.old.program (state_of self.old) (loads_at_x op (arguments F6 self.old.program.code self.old.pc skip) (state_of self.old)) }
+        ensures program { self.new.program ≡ self.old.program }
+        ensures gas { self.new.gas ≡ self.old.gas }
+    {
+        let at = register_and_immediate(self.program.code(), self.pc, skip);
+        self.load(at.a, op, width, address(at.x), skip)
+    }
+
+    /// A load at an address in a register, with an offset.
+    #[inline]
+    pub(crate) fn load_at_b_x(&mut self, op: Op, width: u8, skip: u8) -> Option<Exit>
+        requires loads { IsTrue (alu.is_load op) }
+        requires width { alu.loaded_bytes op ≡ width }
+        requires size { IsTrue (is_width width) }
+        requires within { self.old.pc < length self.old.program.code }
+        requires skip { skip ≡ blob.skip self.old.program self.old.pc }
+        requires short { skip ≤ 24 }
+        ensures acts { after_of self.new result ≡ after self.old.program (state_of self.old) (loads_at_b_x op (arguments F10 self.old.program.code self.old.pc skip) (state_of self.old)) }
+        ensures program { self.new.program ≡ self.old.program }
+        ensures gas { self.new.gas ≡ self.old.gas }
+    {
+        let at = two_registers_and_immediate(self.program.code(), self.pc, skip);
+        let from = address_from(self.value(at.b), at.x);
+        self.load(at.a, op, width, from, skip)
+    }
+
+    /// A store of an immediate at an immediate address.
+    #[inline]
+    pub(crate) fn store_y_at_x(&mut self, width: u8, skip: u8) -> Result<Option<Exit>, AllocError>
+        requires size { IsTrue (is_width width) }
+        requires within { self.old.pc < length self.old.program.code }
+        requires skip { skip ≡ blob.skip self.old.program self.old.pc }
+        requires short { skip ≤ 24 }
+        ensures acts { IfOk result (λ exit. after_of self.new exit ≡ after self.old.program (state_of self.old) (stores_y_at_x width (arguments F4 self.old.program.code self.old.pc skip) (state_of self.old))) }
+        ensures program { self.new.program ≡ self.old.program }
+        ensures gas { self.new.gas ≡ self.old.gas }
+        ensures err { OnErr result (self.new ≡ self.old) }
+    {
+        let at = two_immediates(self.program.code(), self.pc, skip);
+        self.store(width, address(at.x), at.y, skip)
+    }
+
+    /// A store of a register at an immediate address.
+    #[inline]
+    pub(crate) fn store_a_at_x(&mut self, width: u8, skip: u8) -> Result<Option<Exit>, AllocError>
+        requires size { IsTrue (is_width width) }
+        requires within { self.old.pc < length self.old.program.code }
+        requires skip { skip ≡ blob.skip self.old.program self.old.pc }
+        requires short { skip ≤ 24 }
+        ensures acts { IfOk result (λ exit. after_of self.new exit ≡ after self.old.program (state_of self.old) (stores_a_at_x width (arguments F6 self.old.program.code self.old.pc skip) (state_of self.old))) }
+        ensures program { self.new.program ≡ self.old.program }
+        ensures gas { self.new.gas ≡ self.old.gas }
+        ensures err { OnErr result (self.new ≡ self.old) }
+    {
+        let at = register_and_immediate(self.program.code(), self.pc, skip);
+        let value = self.value(at.a);
+        self.store(width, address(at.x), value, skip)
+    }
+
+    /// A store of an immediate at an address in a register, with an offset.
+    #[inline]
+    pub(crate) fn store_y_at_a_x(&mut self, width: u8, skip: u8) -> Result<Option<Exit>, AllocError>
+        requires size { IsTrue (is_width width) }
+        requires within { self.old.pc < length self.old.program.code }
+        requires skip { skip ≡ blob.skip self.old.program self.old.pc }
+        requires short { skip ≤ 24 }
+        ensures acts { IfOk result (λ exit. after_of self.new exit ≡ after self.old.program (state_of self.old) (stores_y_at_a_x width (arguments F7 self.old.program.code self.old.pc skip) (state_of self.old))) }
+        ensures program { self.new.program ≡ self.old.program }
+        ensures gas { self.new.gas ≡ self.old.gas }
+        ensures err { OnErr result (self.new ≡ self.old) }
+    {
+        let at = register_and_two_immediates(self.program.code(), self.pc, skip);
+        let to = address_from(self.value(at.a), at.x);
+        self.store(width, to, at.y, skip)
+    }
+
+    /// A store of a register at an address in another, with an offset.
+    #[inline]
+    pub(crate) fn store_a_at_b_x(&mut self, width: u8, skip: u8) -> Result<Option<Exit>, AllocError>
+        requires size { IsTrue (is_width width) }
+        requires within { self.old.pc < length self.old.program.code }
+        requires skip { skip ≡ blob.skip self.old.program self.old.pc }
+        requires short { skip ≤ 24 }
+        ensures acts { IfOk result (λ exit. after_of self.new exit ≡ after self.old.program (state_of self.old) (stores_a_at_b_x width (arguments F10 self.old.program.code self.old.pc skip) (state_of self.old))) }
+        ensures program { self.new.program ≡ self.old.program }
+        ensures gas { self.new.gas ≡ self.old.gas }
+        ensures err { OnErr result (self.new ≡ self.old) }
+    {
+        let at = two_registers_and_immediate(self.program.code(), self.pc, skip);
+        let to = address_from(self.value(at.b), at.x);
+        let value = self.value(at.a);
+        self.store(width, to, value, skip)
+    }
+
+    /// A branch on the value of a register and an immediate.
+    #[inline]
+    pub(crate) fn branch_on_a_x(&mut self, op: Op, skip: u8) -> Option<Exit>
+        requires operation { IsTrue (alu.is_test op) }
+        requires within { self.old.pc < length self.old.program.code }
+        requires skip { skip ≡ blob.skip self.old.program self.old.pc }
+        requires short { skip ≤ 24 }
+        ensures acts { after_of self.new result ≡ after self.old.program (state_of self.old) (branches_on_a_x op (arguments F8 self.old.program.code self.old.pc skip) (state_of self.old)) }
+        ensures program { self.new.program ≡ self.old.program }
+        ensures gas { self.new.gas ≡ self.old.gas }
+    {
+        let at = register_immediate_and_offset(self.program.code(), self.pc, skip);
+        let taken = test(op, self.value(at.a), at.x);
+        self.branch(taken, at.target, skip)
+    }
+
+    /// A branch on the values of two registers.
+    #[inline]
+    pub(crate) fn branch_on_a_b(&mut self, op: Op, skip: u8) -> Option<Exit>
+        requires operation { IsTrue (alu.is_test op) }
+        requires within { self.old.pc < length self.old.program.code }
+        requires skip { skip ≡ blob.skip self.old.program self.old.pc }
+        requires short { skip ≤ 24 }
+        ensures acts { after_of self.new result ≡ after self.old.program (state_of self.old) (branches_on_a_b op (arguments F11 self.old.program.code self.old.pc skip) (state_of self.old)) }
+        ensures program { self.new.program ≡ self.old.program }
+        ensures gas { self.new.gas ≡ self.old.gas }
+    {
+        let at = two_registers_and_offset(self.program.code(), self.pc, skip);
+        let taken = test(op, self.value(at.a), self.value(at.b));
+        self.branch(taken, at.target, skip)
+    }
+}

@@ -1,0 +1,241 @@
+// The kinds of effects, over values that are read already.
+ghost use Rattle.std.specs.Prelude.{◌≡◌, ◌<◌, ◌≤◌, ◌+◌, ◌%◌, ◌^◌, IsTrue, None, set, IfOk, OnOk, OnErr};
+ghost use Rattle.blob_decode.specs.Program as blob;
+ghost use Rattle.blob_decode.specs.Program.{next, jump_to, jump_through};
+ghost use Rattle.paged_memory.specs.PageMap.{is_width};
+ghost use Rattle.pvm_alu.specs.Alu as alu;
+ghost use Rattle.pvm_step.specs.Effect.{Gives, Loads, Stores, Branches, Moves, Grows, after, lands, grown, value_in, exit_of};
+ghost use Rattle.pvm_step.specs.Machine.{state_of, after_of};
+
+use crate::exit::Exit;
+use crate::heap::Heap;
+use crate::machine::Machine;
+use paged_memory::{Access, StoreRefusal};
+use pvm_alu::widen;
+use pvm_isa::Op;
+use std::alloc::AllocError;
+
+const HALT_ADDRESS: u64 = 4_294_901_760;
+
+#[inline]
+fn exit_of(access: Access) -> Exit
+    ensures { result ≡ exit_of access }
+{
+    match access {
+        Access::Low => Exit::Panic,
+        Access::Fault(page) => Exit::Fault(page),
+    }
+}
+
+impl Machine {
+    /// The value of a register.
+    #[inline]
+    pub(crate) fn value(&self, register: u8) -> u64
+        requires { register < 13 }
+        ensures { result ≡ value_in (state_of self.now) register }
+    {
+        self.registers[usize::from(register)]
+    }
+
+    /// Goes to the next instruction.
+    #[inline]
+    pub(crate) fn go_on(&mut self, skip: u8)
+        requires place { self.old.pc < 2 ^ 63 }
+        requires skip { skip ≡ blob.skip self.old.program self.old.pc }
+        ensures { self.new ≡ record self.old { pc = next self.old.program self.old.pc } }
+    {
+        self.pc += 1 + u64::from(skip);
+    }
+
+    /// Sets a register, and goes to the next instruction.
+    #[inline]
+    #[tactic(auto, unfolding(crate::specs::Effect::after))]
+    pub(crate) fn give(&mut self, register: u8, value: u64, skip: u8)
+        requires register { register < 13 }
+        requires place { self.old.pc < 2 ^ 63 }
+        requires skip { skip ≡ blob.skip self.old.program self.old.pc }
+        ensures acts { after_of self.new None ≡ after self.old.program (state_of self.old) (Gives register value) }
+        ensures program { self.new.program ≡ self.old.program }
+        ensures gas { self.new.gas ≡ self.old.gas }
+    {
+        self.registers[usize::from(register)] = value;
+        self.go_on(skip);
+    }
+
+    /// Sets a register where the test holds, and goes to the next instruction.
+    #[inline]
+    #[tactic(auto, unfolding(crate::specs::Effect::after))]
+    pub(crate) fn move_where(&mut self, holds: bool, register: u8, value: u64, skip: u8)
+        requires register { register < 13 }
+        requires place { self.old.pc < 2 ^ 63 }
+        requires skip { skip ≡ blob.skip self.old.program self.old.pc }
+        ensures acts { after_of self.new None ≡ after self.old.program (state_of self.old) (Moves holds register value) }
+        ensures program { self.new.program ≡ self.old.program }
+        ensures gas { self.new.gas ≡ self.old.gas }
+    {
+        if holds {
+            self.registers[usize::from(register)] = value;
+        }
+        self.go_on(skip);
+    }
+
+    /// Sets a register to the bytes at an address.
+    #[inline]
+    #[tactic(auto, unfolding(crate::specs::Effect::after))]
+    pub(crate) fn load(
+        &mut self,
+        register: u8,
+        op: Op,
+        width: u8,
+        from: u32,
+        skip: u8,
+    ) -> Option<Exit>
+        requires register { register < 13 }
+        requires loads { IsTrue (alu.is_load op) }
+        requires width { alu.loaded_bytes op ≡ width }
+        requires size { IsTrue (is_width width) }
+        requires place { self.old.pc < 2 ^ 63 }
+        requires skip { skip ≡ blob.skip self.old.program self.old.pc }
+        ensures acts { after_of self.new result ≡ after self.old.program (state_of self.old) (Loads register op from) }
+        ensures program { self.new.program ≡ self.old.program }
+        ensures gas { self.new.gas ≡ self.old.gas }
+    {
+        match self.memory.load(from, width) {
+            Ok(raw) => {
+                self.give(register, widen(op, raw), skip);
+                None
+            }
+            Err(access) => Some(exit_of(access)),
+        }
+    }
+
+    /// Stores the low bytes of a value at an address.
+    #[inline]
+    #[tactic(auto, unfolding(crate::specs::Effect::after))]
+    pub(crate) fn store(
+        &mut self,
+        width: u8,
+        to: u32,
+        value: u64,
+        skip: u8,
+    ) -> Result<Option<Exit>, AllocError>
+        requires size { IsTrue (is_width width) }
+        requires place { self.old.pc < 2 ^ 63 }
+        requires skip { skip ≡ blob.skip self.old.program self.old.pc }
+        ensures acts { IfOk result (λ exit. after_of self.new exit ≡ after self.old.program (state_of self.old) (Stores width to value)) }
+        ensures program { self.new.program ≡ self.old.program }
+        ensures gas { self.new.gas ≡ self.old.gas }
+        ensures err { OnErr result (self.new ≡ self.old) }
+    {
+        match self.memory.store(to, width, value) {
+            Ok(()) => {
+                self.go_on(skip);
+                Ok(None)
+            }
+            Err(StoreRefusal::Access(access)) => Ok(Some(exit_of(access))),
+            Err(StoreRefusal::NoMemory) => Err(AllocError),
+        }
+    }
+
+    /// Jumps to a target, where a block begins there.
+    #[inline]
+    pub(crate) fn jump(&mut self, target: Option<u64>) -> Option<Exit>
+        ensures landed { after_of self.new result ≡ lands (state_of self.old) (jump_to self.old.program target) }
+        ensures program { self.new.program ≡ self.old.program }
+        ensures gas { self.new.gas ≡ self.old.gas }
+    {
+        match target {
+            Some(place) if self.program.is_start(place) => {
+                self.pc = place;
+                None
+            }
+            _ => Some(Exit::Panic),
+        }
+    }
+
+    /// Jumps through the jump table.
+    #[inline]
+    pub(crate) fn jump_through(&mut self, address: u32) -> Option<Exit>
+        ensures landed { after_of self.new result ≡ lands (state_of self.old) (jump_through self.old.program address) }
+        ensures program { self.new.program ≡ self.old.program }
+        ensures gas { self.new.gas ≡ self.old.gas }
+    {
+        if u64::from(address) == HALT_ADDRESS {
+            return Some(Exit::Halt);
+        }
+        if address == 0 || address % 2 == 1 {
+            return Some(Exit::Panic);
+        }
+        let target = self.program.jump_at(u64::from(address) / 2 - 1);
+        self.jump(target)
+    }
+
+    /// Jumps to a target where the test holds.
+    #[inline]
+    #[tactic(auto, unfolding(crate::specs::Effect::after))]
+    pub(crate) fn branch(&mut self, taken: bool, target: Option<u64>, skip: u8) -> Option<Exit>
+        requires place { self.old.pc < 2 ^ 63 }
+        requires skip { skip ≡ blob.skip self.old.program self.old.pc }
+        ensures acts { after_of self.new result ≡ after self.old.program (state_of self.old) (Branches taken target) }
+        ensures program { self.new.program ≡ self.old.program }
+        ensures gas { self.new.gas ≡ self.old.gas }
+    {
+        if taken {
+            return self.jump(target);
+        }
+        self.go_on(skip);
+        None
+    }
+
+    /// Sets a register.
+    #[inline]
+    pub(crate) fn set(&mut self, register: u8, value: u64)
+        requires { register < 13 }
+        ensures { self.new ≡ record self.old { registers = set self.old.registers register value } }
+    {
+        self.registers[usize::from(register)] = value;
+    }
+
+    /// Raises the next byte of the heap, and lifts the pages up to there.
+    fn lift(&mut self, amount: u64) -> Result<(), AllocError>
+        requires some { 0 < amount }
+        requires room { self.old.heap.next + amount ≤ self.old.heap.end }
+        ensures grown { OnOk result (state_of self.new ≡ grown (state_of self.old) amount) }
+        ensures program { self.new.program ≡ self.old.program }
+        ensures gas { self.new.gas ≡ self.old.gas }
+        ensures err { OnErr result (self.new ≡ self.old) }
+    {
+        let next = self.heap.next();
+        let end = self.heap.end();
+        let past = next + amount;
+        let first = next / 4096;
+        let count = past.div_ceil(4096) - first;
+        self.memory.lift_pages(first as u32, count as u32)?;
+        self.heap = Heap::new(past, end);
+        Ok(())
+    }
+
+    /// Grows the heap by an amount, and sets a register to where its next byte was.
+    #[tactic(auto, unfolding(crate::specs::Effect::after))]
+    pub(crate) fn grow(&mut self, register: u8, amount: u64, skip: u8) -> Result<(), AllocError>
+        requires register { register < 13 }
+        requires place { self.old.pc < 2 ^ 63 }
+        requires skip { skip ≡ blob.skip self.old.program self.old.pc }
+        ensures acts { OnOk result (after_of self.new None ≡ after self.old.program (state_of self.old) (Grows register amount)) }
+        ensures program { self.new.program ≡ self.old.program }
+        ensures gas { self.new.gas ≡ self.old.gas }
+        ensures err { OnErr result (self.new ≡ self.old) }
+    {
+        let next = self.heap.next();
+        let room = self.heap.end() - next;
+        if amount == 0 {
+            self.give(register, next, skip);
+        } else if amount > room {
+            self.give(register, 0, skip);
+        } else {
+            self.lift(amount)?;
+            self.give(register, next, skip);
+        }
+        Ok(())
+    }
+}
