@@ -1,9 +1,8 @@
 -- What a store does, and what the machine does at a place past the code.
 use Rattle.std.proofs.lemmas.Bool.{cases_lt}
-use Rattle.std.proofs.Common.{◌≡◌, ℕ, ◌<◌, ◌≤◌, inl, inr, Bool, true, false, ◌&&◌, length, arith, ap, sym, ◌∙◌, refl, Option, Some, None, Result, Ok, Err}
+use Rattle.std.proofs.Common.{◌≡◌, ℕ, ◌<◌, ◌≤◌, inl, inr, false, ◌&&◌, length, arith, ap, ◌∙◌, refl, Option, Some, None, Result, Ok, Err}
 use Rattle.std.specs.Prelude.{◌↔◌, nat_lt, if◌then◌else◌, is_some, unwrap_or}
 use Rattle.std.proofs.lemmas.Bool.Decides.{nat_tests}
-use Rattle.pvm_isa.specs.declared.op.Op.{Op}
 use Rattle.pvm_isa.specs.declared.op.Op.TheVariants.{Trap, Ecalli}
 use Rattle.pvm_isa.specs.Opcodes.{op_numbered}
 use Rattle.blob_decode.specs.Program.{Program, mask_bit, code_byte, op_at, next}

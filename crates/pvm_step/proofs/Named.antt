@@ -1,5 +1,5 @@
 -- What an effect leaves as it was.
-use Rattle.std.proofs.Common.{◌≡◌, ◌≢◌, ℕ, zero, suc, ◌+◌, ◌-◌, ◌*◌, ◌/◌, ◌%◌, ◌^◌, ◌<◌, ◌≤◌, ◌⊎◌, inl, inr, Bool, true, false, List, [], ◌∷◌, get_or, set, replicate, ap, sym, ◌∙◌, refl, subst, arith, Option, Some, None, Result, Ok, Err}
+use Rattle.std.proofs.Common.{◌≡◌, ◌≢◌, ℕ, zero, suc, ◌+◌, ◌/◌, ◌%◌, ◌^◌, ◌⊎◌, inl, inr, Bool, true, false, List, get_or, replicate, ap, sym, ◌∙◌, refl, arith, Option, Some, None, Result, Ok, Err}
 use Rattle.std.specs.Prelude.{Contains, nat_lt, ◌==◌, if◌then◌else◌, slice_set}
 use Rattle.std.specs.FinMap as fin
 use Rattle.std.proofs.lemmas.Bool.{cases_lt}
@@ -11,7 +11,7 @@ use Rattle.paged_memory.specs.declared.access.Access.{Access}
 use Rattle.paged_memory.specs.PageMap.{Memory, Page, Write, byte, byte_in, page_of, addresses, blank, put_in, put_byte, put_bytes, bytes_of, lift_in, lift_page, lift_pages, loaded, refusal}
 use Rattle.paged_memory.proofs.Maps.{inserted_there, inserted_other}
 use Rattle.pvm_alu.specs.Alu.{loaded_bytes, widen}
-use Rattle.pvm_step.specs.Effect.{State, After, Act, Nothing, Exits, Gives, Loads, Stores, Jumps, Branches, JumpsThrough, GivesAndJumps, GivesAndJumpsThrough, Moves, Grows, after, value_in, given, lands, loads, stores, grown, grows, goes, pages_touched}
+use Rattle.pvm_step.specs.Effect.{State, Act, Nothing, Exits, Gives, Loads, Stores, Jumps, Branches, JumpsThrough, GivesAndJumps, GivesAndJumpsThrough, Moves, Grows, after, value_in, given, lands, loads, stores, grown, goes, pages_touched}
 use Rattle.pvm_step.specs.Named.{register_of, stored_by, changes_memory}
 
 -- ---- Registers

@@ -1,5 +1,5 @@
 -- The state after so many instructions.
-use Rattle.std.proofs.Common.{◌≡◌, ℕ, zero, suc, ◌+◌, ◌-◌, ◌<◌, ◌≤◌, List, [], ◌∷◌, get_or, arith, ap, sym, ◌∙◌, refl, subst, Option, Some, None}
+use Rattle.std.proofs.Common.{◌≡◌, ℕ, zero, suc, ◌+◌, ◌-◌, ◌<◌, List, [], ◌∷◌, get_or, arith, ap, sym, ◌∙◌, refl, Option, Some, None}
 use Rattle.blob_decode.specs.Program.{Program}
 use Rattle.pvm_step.specs.declared.exit.Exit.{Exit}
 use Rattle.pvm_step.specs.declared.exit.Exit.TheVariants.{OutOfGas}

@@ -1,5 +1,5 @@
 -- The history of a machine: its states, one after each instruction.
-use Rattle.std.specs.Prelude.{◌≡◌, ℕ, zero, suc, ◌+◌, ◌≤◌, Bool, true, false, ◌&&◌, List, [], ◌∷◌, replicate, get_or, if◌then◌else◌, Option, Some, None, IsSome}
+use Rattle.std.specs.Prelude.{◌≡◌, ℕ, zero, suc, ◌+◌, ◌≤◌, Bool, true, false, List, [], ◌∷◌, replicate, get_or, if◌then◌else◌, Option, Some, None, IsSome}
 use Rattle.std.specs.FinMap as fin
 use Rattle.blob_decode.specs.Program.{Program}
 use Rattle.paged_memory.specs.PageMap.{readable, bytes_from}

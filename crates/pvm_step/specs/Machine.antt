@@ -1,10 +1,13 @@
 -- The machine of the code as the definitions see it.
-use Rattle.std.specs.Prelude.{◌≡◌, ℕ, ◌≤◌, ◌⊎◌, ◌^◌, List, Bool, Option, Some, None, refl}
+use Rattle.std.specs.Prelude.{◌≡◌, ℕ, ◌≤◌, ◌⊎◌, ◌^◌, List, Bool, true, false, Option, Some, None, refl}
 use Rattle.std.specs.Coded.{Coded, code_by, coded×, coded_ℕ, coded_bool, coded_list}
 use Rattle.blob_decode.specs.Program.{Program}
 use Rattle.paged_memory.specs.PageMap.{Memory}
 use Rattle.paged_memory.specs.Codes.{memory_code}
 use Rattle.pvm_step.specs.declared.exit.Exit.{Exit}
+use Rattle.pvm_step.specs.declared.exit.Exit.TheVariants.{Panic}
+use Rattle.pvm_step.specs.declared.went.Went.{Went}
+use Rattle.pvm_step.specs.declared.went.Went.TheVariants.{On, Panics, Beyond}
 use Rattle.pvm_step.specs.declared.exit.Progress.{Progress}
 use Rattle.pvm_step.specs.declared.exit.Progress.TheVariants.{Ended, Paused}
 use Rattle.pvm_step.specs.Effect.{State, Heap, After}
@@ -32,6 +35,23 @@ moment m exit = record { state = state_of m; gas = m.gas; exit = exit }
 abbrev pub exit_in : Progress → Option Exit
 exit_in (Ended exit) = Some exit
 exit_in Paused = None
+
+-- the exit of an instruction that goes on or panics, and whether there was one
+abbrev pub exit_after : Went → Option Exit
+exit_after On = None
+exit_after Panics = Some Panic
+exit_after Beyond = None
+
+abbrev pub is_done : Went → Bool
+is_done On = true
+is_done Panics = true
+is_done Beyond = false
+
+-- what was done, or what was there before
+abbrev pub done_or : Went → After → After → After
+done_or On done before = done
+done_or Panics done before = done
+done_or Beyond done before = before
 
 -- no heap, or one above the 16 lowest pages and within the 2 ^ 32 addresses
 abbrev pub IsHeap : ℕ → ℕ → Type 0

@@ -1,5 +1,7 @@
 -- What an effect names: the register that it may set, and the bytes that it may change.
 use Rattle.std.specs.Prelude.{ℕ, Bool, true, false, List, [], Option, Some, None}
+use Rattle.pvm_isa.specs.declared.op.Op.{Op}
+use Rattle.pvm_isa.specs.declared.op.Op.TheVariants.{Ecalli, StoreImmU8, StoreImmU16, StoreImmU32, StoreImmU64, JumpInd, LoadU8, LoadI8, LoadU16, LoadI16, LoadU32, LoadI32, LoadU64, StoreU8, StoreU16, StoreU32, StoreU64, StoreImmIndU8, StoreImmIndU16, StoreImmIndU32, StoreImmIndU64, Sbrk, StoreIndU8, StoreIndU16, StoreIndU32, StoreIndU64, LoadIndU8, LoadIndI8, LoadIndU16, LoadIndI16, LoadIndU32, LoadIndI32, LoadIndU64, LoadImmJumpInd}
 use Rattle.paged_memory.specs.PageMap.{addresses}
 use Rattle.pvm_step.specs.Effect.{Act, Nothing, Exits, Gives, Loads, Stores, Jumps, Branches, JumpsThrough, GivesAndJumps, GivesAndJumpsThrough, Moves, Grows}
 
@@ -27,3 +29,41 @@ abbrev pub changes_memory : Act → Bool
 changes_memory (Stores width to value) = true
 changes_memory (Grows register amount) = true
 changes_memory act = false
+
+-- opcodes that work on the registers and the pc alone: no memory, no heap, no jump table and no host
+unfoldable pub on_registers : Op → Bool
+on_registers Ecalli = false
+on_registers StoreImmU8 = false
+on_registers StoreImmU16 = false
+on_registers StoreImmU32 = false
+on_registers StoreImmU64 = false
+on_registers JumpInd = false
+on_registers LoadU8 = false
+on_registers LoadI8 = false
+on_registers LoadU16 = false
+on_registers LoadI16 = false
+on_registers LoadU32 = false
+on_registers LoadI32 = false
+on_registers LoadU64 = false
+on_registers StoreU8 = false
+on_registers StoreU16 = false
+on_registers StoreU32 = false
+on_registers StoreU64 = false
+on_registers StoreImmIndU8 = false
+on_registers StoreImmIndU16 = false
+on_registers StoreImmIndU32 = false
+on_registers StoreImmIndU64 = false
+on_registers Sbrk = false
+on_registers StoreIndU8 = false
+on_registers StoreIndU16 = false
+on_registers StoreIndU32 = false
+on_registers StoreIndU64 = false
+on_registers LoadIndU8 = false
+on_registers LoadIndI8 = false
+on_registers LoadIndU16 = false
+on_registers LoadIndI16 = false
+on_registers LoadIndU32 = false
+on_registers LoadIndI32 = false
+on_registers LoadIndU64 = false
+on_registers LoadImmJumpInd = false
+on_registers _ = true

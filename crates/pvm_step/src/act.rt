@@ -1,19 +1,194 @@
-// What each opcode does.
-ghost use Rattle.std.specs.Prelude.{◌≡◌, ◌<◌, ◌≤◌, length, IfOk, OnErr};
+// What each opcode does. Each arm names its opcode, so that only the work of that one is left in it.
+ghost use Rattle.std.specs.Prelude.{◌≡◌, ◌<◌, ◌≤◌, false, None, length, IfOk, OnErr};
 ghost use Rattle.blob_decode.specs.Program as blob;
 ghost use Rattle.pvm_step.specs.Effect.{outcome};
-ghost use Rattle.pvm_step.specs.Machine.{state_of, after_of};
+ghost use Rattle.pvm_step.specs.Machine.{state_of, after_of, exit_after, is_done, done_or};
+ghost use Rattle.pvm_step.specs.Named.{on_registers};
 
 use crate::exit::Exit;
 use crate::machine::Machine;
+use crate::went::Went;
 use pvm_isa::Op;
 use std::alloc::AllocError;
 
 impl Machine {
-    /// What the instruction of this opcode does at the pc. Each arm names its opcode, so that only
-    /// the work of that one is left in it.
-    #[inline]
-    #[tactic(auto, unfolding(crate::specs::Effect::outcome, crate::specs::Effect::line, crate::specs::Effect::after, pvm_isa::specs::Opcodes::entry, pvm_alu::specs::Alu::binary_line, pvm_alu::specs::Alu::unary_line, pvm_alu::specs::Alu::test_line, pvm_alu::specs::Alu::widen_line, pvm_alu::specs::Alu::loaded_bytes))]
+    /// Does the instruction of an opcode that works on the registers alone; of another it does nothing.
+    #[inline(always)]
+    #[tactic(auto, unfolding(crate::specs::Effect::outcome, crate::specs::Effect::line, crate::specs::Effect::after, crate::specs::Named::on_registers, pvm_isa::specs::Opcodes::entry, pvm_alu::specs::Alu::binary_line, pvm_alu::specs::Alu::unary_line, pvm_alu::specs::Alu::test_line))]
+    fn act_on_registers(&mut self, op: Op, skip: u8) -> Went
+        requires within { self.old.pc < length self.old.program.code }
+        requires skip { skip ≡ blob.skip self.old.program self.old.pc }
+        requires short { skip ≤ 24 }
+        ensures acts { after_of self.new (exit_after result) ≡ done_or result (outcome op self.old.program (state_of self.old)) (after_of self.old None) }
+        ensures done { is_done result ≡ on_registers op }
+        ensures same { result ≡ Went.Beyond → self.new ≡ self.old }
+        ensures program { self.new.program ≡ self.old.program }
+        ensures gas { self.new.gas ≡ self.old.gas }
+    {
+        match op {
+            Op::Trap => Went::Panics,
+            Op::Fallthrough => self.fall_through(skip),
+            Op::LoadImm64 => self.load_imm_64(skip),
+            Op::Jump => self.jump_on(skip),
+            Op::LoadImm => self.load_imm(skip),
+            Op::LoadImmJump => self.load_imm_jump(skip),
+            Op::BranchEqImm => self.branch_on_a_x(Op::BranchEqImm, skip),
+            Op::BranchNeImm => self.branch_on_a_x(Op::BranchNeImm, skip),
+            Op::BranchLtUImm => self.branch_on_a_x(Op::BranchLtUImm, skip),
+            Op::BranchLeUImm => self.branch_on_a_x(Op::BranchLeUImm, skip),
+            Op::BranchGeUImm => self.branch_on_a_x(Op::BranchGeUImm, skip),
+            Op::BranchGtUImm => self.branch_on_a_x(Op::BranchGtUImm, skip),
+            Op::BranchLtSImm => self.branch_on_a_x(Op::BranchLtSImm, skip),
+            Op::BranchLeSImm => self.branch_on_a_x(Op::BranchLeSImm, skip),
+            Op::BranchGeSImm => self.branch_on_a_x(Op::BranchGeSImm, skip),
+            Op::BranchGtSImm => self.branch_on_a_x(Op::BranchGtSImm, skip),
+            Op::MoveReg => self.move_reg(skip),
+            Op::CountSetBits64 => self.give_of_a(Op::CountSetBits64, skip),
+            Op::CountSetBits32 => self.give_of_a(Op::CountSetBits32, skip),
+            Op::LeadingZeroBits64 => self.give_of_a(Op::LeadingZeroBits64, skip),
+            Op::LeadingZeroBits32 => self.give_of_a(Op::LeadingZeroBits32, skip),
+            Op::TrailingZeroBits64 => self.give_of_a(Op::TrailingZeroBits64, skip),
+            Op::TrailingZeroBits32 => self.give_of_a(Op::TrailingZeroBits32, skip),
+            Op::SignExtend8 => self.give_of_a(Op::SignExtend8, skip),
+            Op::SignExtend16 => self.give_of_a(Op::SignExtend16, skip),
+            Op::ZeroExtend16 => self.give_of_a(Op::ZeroExtend16, skip),
+            Op::ReverseBytes => self.give_of_a(Op::ReverseBytes, skip),
+            Op::AddImm32 => self.give_of_b_x(Op::AddImm32, skip),
+            Op::AndImm => self.give_of_b_x(Op::AndImm, skip),
+            Op::XorImm => self.give_of_b_x(Op::XorImm, skip),
+            Op::OrImm => self.give_of_b_x(Op::OrImm, skip),
+            Op::MulImm32 => self.give_of_b_x(Op::MulImm32, skip),
+            Op::SetLtUImm => self.give_of_b_x(Op::SetLtUImm, skip),
+            Op::SetLtSImm => self.give_of_b_x(Op::SetLtSImm, skip),
+            Op::ShloLImm32 => self.give_of_b_x(Op::ShloLImm32, skip),
+            Op::ShloRImm32 => self.give_of_b_x(Op::ShloRImm32, skip),
+            Op::SharRImm32 => self.give_of_b_x(Op::SharRImm32, skip),
+            Op::NegAddImm32 => self.give_of_b_x(Op::NegAddImm32, skip),
+            Op::SetGtUImm => self.give_of_b_x(Op::SetGtUImm, skip),
+            Op::SetGtSImm => self.give_of_b_x(Op::SetGtSImm, skip),
+            Op::ShloLImmAlt32 => self.give_of_b_x(Op::ShloLImmAlt32, skip),
+            Op::ShloRImmAlt32 => self.give_of_b_x(Op::ShloRImmAlt32, skip),
+            Op::SharRImmAlt32 => self.give_of_b_x(Op::SharRImmAlt32, skip),
+            Op::CmovIzImm => self.cmov_iz_imm(skip),
+            Op::CmovNzImm => self.cmov_nz_imm(skip),
+            Op::AddImm64 => self.give_of_b_x(Op::AddImm64, skip),
+            Op::MulImm64 => self.give_of_b_x(Op::MulImm64, skip),
+            Op::ShloLImm64 => self.give_of_b_x(Op::ShloLImm64, skip),
+            Op::ShloRImm64 => self.give_of_b_x(Op::ShloRImm64, skip),
+            Op::SharRImm64 => self.give_of_b_x(Op::SharRImm64, skip),
+            Op::NegAddImm64 => self.give_of_b_x(Op::NegAddImm64, skip),
+            Op::ShloLImmAlt64 => self.give_of_b_x(Op::ShloLImmAlt64, skip),
+            Op::ShloRImmAlt64 => self.give_of_b_x(Op::ShloRImmAlt64, skip),
+            Op::SharRImmAlt64 => self.give_of_b_x(Op::SharRImmAlt64, skip),
+            Op::RotR64Imm => self.give_of_b_x(Op::RotR64Imm, skip),
+            Op::RotR64ImmAlt => self.give_of_b_x(Op::RotR64ImmAlt, skip),
+            Op::RotR32Imm => self.give_of_b_x(Op::RotR32Imm, skip),
+            Op::RotR32ImmAlt => self.give_of_b_x(Op::RotR32ImmAlt, skip),
+            Op::BranchEq => self.branch_on_a_b(Op::BranchEq, skip),
+            Op::BranchNe => self.branch_on_a_b(Op::BranchNe, skip),
+            Op::BranchLtU => self.branch_on_a_b(Op::BranchLtU, skip),
+            Op::BranchLtS => self.branch_on_a_b(Op::BranchLtS, skip),
+            Op::BranchGeU => self.branch_on_a_b(Op::BranchGeU, skip),
+            Op::BranchGeS => self.branch_on_a_b(Op::BranchGeS, skip),
+            Op::Add32 => self.give_of_a_b(Op::Add32, skip),
+            Op::Sub32 => self.give_of_a_b(Op::Sub32, skip),
+            Op::Mul32 => self.give_of_a_b(Op::Mul32, skip),
+            Op::DivU32 => self.give_of_a_b(Op::DivU32, skip),
+            Op::DivS32 => self.give_of_a_b(Op::DivS32, skip),
+            Op::RemU32 => self.give_of_a_b(Op::RemU32, skip),
+            Op::RemS32 => self.give_of_a_b(Op::RemS32, skip),
+            Op::ShloL32 => self.give_of_a_b(Op::ShloL32, skip),
+            Op::ShloR32 => self.give_of_a_b(Op::ShloR32, skip),
+            Op::SharR32 => self.give_of_a_b(Op::SharR32, skip),
+            Op::Add64 => self.give_of_a_b(Op::Add64, skip),
+            Op::Sub64 => self.give_of_a_b(Op::Sub64, skip),
+            Op::Mul64 => self.give_of_a_b(Op::Mul64, skip),
+            Op::DivU64 => self.give_of_a_b(Op::DivU64, skip),
+            Op::DivS64 => self.give_of_a_b(Op::DivS64, skip),
+            Op::RemU64 => self.give_of_a_b(Op::RemU64, skip),
+            Op::RemS64 => self.give_of_a_b(Op::RemS64, skip),
+            Op::ShloL64 => self.give_of_a_b(Op::ShloL64, skip),
+            Op::ShloR64 => self.give_of_a_b(Op::ShloR64, skip),
+            Op::SharR64 => self.give_of_a_b(Op::SharR64, skip),
+            Op::And => self.give_of_a_b(Op::And, skip),
+            Op::Xor => self.give_of_a_b(Op::Xor, skip),
+            Op::Or => self.give_of_a_b(Op::Or, skip),
+            Op::MulUpperSS => self.give_of_a_b(Op::MulUpperSS, skip),
+            Op::MulUpperUU => self.give_of_a_b(Op::MulUpperUU, skip),
+            Op::MulUpperSU => self.give_of_a_b(Op::MulUpperSU, skip),
+            Op::SetLtU => self.give_of_a_b(Op::SetLtU, skip),
+            Op::SetLtS => self.give_of_a_b(Op::SetLtS, skip),
+            Op::CmovIz => self.cmov_iz(skip),
+            Op::CmovNz => self.cmov_nz(skip),
+            Op::RotL64 => self.give_of_a_b(Op::RotL64, skip),
+            Op::RotL32 => self.give_of_a_b(Op::RotL32, skip),
+            Op::RotR64 => self.give_of_a_b(Op::RotR64, skip),
+            Op::RotR32 => self.give_of_a_b(Op::RotR32, skip),
+            Op::AndInv => self.give_of_a_b(Op::AndInv, skip),
+            Op::OrInv => self.give_of_a_b(Op::OrInv, skip),
+            Op::Xnor => self.give_of_a_b(Op::Xnor, skip),
+            Op::Max => self.give_of_a_b(Op::Max, skip),
+            Op::MaxU => self.give_of_a_b(Op::MaxU, skip),
+            Op::Min => self.give_of_a_b(Op::Min, skip),
+            Op::MinU => self.give_of_a_b(Op::MinU, skip),
+            _ => Went::Beyond,
+        }
+    }
+
+    /// What another opcode does at the pc.
+    #[inline(never)]
+    #[tactic(auto, unfolding(crate::specs::Effect::outcome, crate::specs::Effect::line, crate::specs::Effect::after, crate::specs::Named::on_registers, pvm_isa::specs::Opcodes::entry, pvm_alu::specs::Alu::widen_line, pvm_alu::specs::Alu::loaded_bytes))]
+    fn act_beyond(&mut self, op: Op, skip: u8) -> Result<Option<Exit>, AllocError>
+        requires within { self.old.pc < length self.old.program.code }
+        requires skip { skip ≡ blob.skip self.old.program self.old.pc }
+        requires short { skip ≤ 24 }
+        requires kind { on_registers op ≡ false }
+        ensures acts { IfOk result (λ exit. after_of self.new exit ≡ outcome op self.old.program (state_of self.old)) }
+        ensures program { self.new.program ≡ self.old.program }
+        ensures gas { self.new.gas ≡ self.old.gas }
+        ensures err { OnErr result (self.new ≡ self.old) }
+    {
+        match op {
+            Op::Ecalli => Ok(self.call_host(skip)),
+            Op::StoreImmU8 => self.store_y_at_x(1, skip),
+            Op::StoreImmU16 => self.store_y_at_x(2, skip),
+            Op::StoreImmU32 => self.store_y_at_x(4, skip),
+            Op::StoreImmU64 => self.store_y_at_x(8, skip),
+            Op::JumpInd => self.jump_ind(skip),
+            Op::LoadU8 => self.load_at_x(Op::LoadU8, 1, skip),
+            Op::LoadI8 => self.load_at_x(Op::LoadI8, 1, skip),
+            Op::LoadU16 => self.load_at_x(Op::LoadU16, 2, skip),
+            Op::LoadI16 => self.load_at_x(Op::LoadI16, 2, skip),
+            Op::LoadU32 => self.load_at_x(Op::LoadU32, 4, skip),
+            Op::LoadI32 => self.load_at_x(Op::LoadI32, 4, skip),
+            Op::LoadU64 => self.load_at_x(Op::LoadU64, 8, skip),
+            Op::StoreU8 => self.store_a_at_x(1, skip),
+            Op::StoreU16 => self.store_a_at_x(2, skip),
+            Op::StoreU32 => self.store_a_at_x(4, skip),
+            Op::StoreU64 => self.store_a_at_x(8, skip),
+            Op::StoreImmIndU8 => self.store_y_at_a_x(1, skip),
+            Op::StoreImmIndU16 => self.store_y_at_a_x(2, skip),
+            Op::StoreImmIndU32 => self.store_y_at_a_x(4, skip),
+            Op::StoreImmIndU64 => self.store_y_at_a_x(8, skip),
+            Op::Sbrk => self.sbrk(skip),
+            Op::StoreIndU8 => self.store_a_at_b_x(1, skip),
+            Op::StoreIndU16 => self.store_a_at_b_x(2, skip),
+            Op::StoreIndU32 => self.store_a_at_b_x(4, skip),
+            Op::StoreIndU64 => self.store_a_at_b_x(8, skip),
+            Op::LoadIndU8 => self.load_at_b_x(Op::LoadIndU8, 1, skip),
+            Op::LoadIndI8 => self.load_at_b_x(Op::LoadIndI8, 1, skip),
+            Op::LoadIndU16 => self.load_at_b_x(Op::LoadIndU16, 2, skip),
+            Op::LoadIndI16 => self.load_at_b_x(Op::LoadIndI16, 2, skip),
+            Op::LoadIndU32 => self.load_at_b_x(Op::LoadIndU32, 4, skip),
+            Op::LoadIndI32 => self.load_at_b_x(Op::LoadIndI32, 4, skip),
+            Op::LoadIndU64 => self.load_at_b_x(Op::LoadIndU64, 8, skip),
+            Op::LoadImmJumpInd => self.load_imm_jump_ind(skip),
+            _ => unreachable!(),
+        }
+    }
+
+    /// What the instruction of an opcode does at the pc.
+    #[inline(always)]
     pub(crate) fn act(&mut self, op: Op, skip: u8) -> Result<Option<Exit>, AllocError>
         requires within { self.old.pc < length self.old.program.code }
         requires skip { skip ≡ blob.skip self.old.program self.old.pc }
@@ -23,146 +198,10 @@ impl Machine {
         ensures gas { self.new.gas ≡ self.old.gas }
         ensures err { OnErr result (self.new ≡ self.old) }
     {
-        match op {
-            Op::Trap => Ok(Some(Exit::Panic)),
-            Op::Fallthrough => Ok(self.fall_through(skip)),
-            Op::Ecalli => Ok(self.call_host(skip)),
-            Op::LoadImm64 => Ok(self.load_imm_64(skip)),
-            Op::StoreImmU8 => self.store_y_at_x(1, skip),
-            Op::StoreImmU16 => self.store_y_at_x(2, skip),
-            Op::StoreImmU32 => self.store_y_at_x(4, skip),
-            Op::StoreImmU64 => self.store_y_at_x(8, skip),
-            Op::Jump => Ok(self.jump_on(skip)),
-            Op::JumpInd => Ok(self.jump_ind(skip)),
-            Op::LoadImm => Ok(self.load_imm(skip)),
-            Op::LoadU8 => Ok(self.load_at_x(Op::LoadU8, 1, skip)),
-            Op::LoadI8 => Ok(self.load_at_x(Op::LoadI8, 1, skip)),
-            Op::LoadU16 => Ok(self.load_at_x(Op::LoadU16, 2, skip)),
-            Op::LoadI16 => Ok(self.load_at_x(Op::LoadI16, 2, skip)),
-            Op::LoadU32 => Ok(self.load_at_x(Op::LoadU32, 4, skip)),
-            Op::LoadI32 => Ok(self.load_at_x(Op::LoadI32, 4, skip)),
-            Op::LoadU64 => Ok(self.load_at_x(Op::LoadU64, 8, skip)),
-            Op::StoreU8 => self.store_a_at_x(1, skip),
-            Op::StoreU16 => self.store_a_at_x(2, skip),
-            Op::StoreU32 => self.store_a_at_x(4, skip),
-            Op::StoreU64 => self.store_a_at_x(8, skip),
-            Op::StoreImmIndU8 => self.store_y_at_a_x(1, skip),
-            Op::StoreImmIndU16 => self.store_y_at_a_x(2, skip),
-            Op::StoreImmIndU32 => self.store_y_at_a_x(4, skip),
-            Op::StoreImmIndU64 => self.store_y_at_a_x(8, skip),
-            Op::LoadImmJump => Ok(self.load_imm_jump(skip)),
-            Op::BranchEqImm => Ok(self.branch_on_a_x(Op::BranchEqImm, skip)),
-            Op::BranchNeImm => Ok(self.branch_on_a_x(Op::BranchNeImm, skip)),
-            Op::BranchLtUImm => Ok(self.branch_on_a_x(Op::BranchLtUImm, skip)),
-            Op::BranchLeUImm => Ok(self.branch_on_a_x(Op::BranchLeUImm, skip)),
-            Op::BranchGeUImm => Ok(self.branch_on_a_x(Op::BranchGeUImm, skip)),
-            Op::BranchGtUImm => Ok(self.branch_on_a_x(Op::BranchGtUImm, skip)),
-            Op::BranchLtSImm => Ok(self.branch_on_a_x(Op::BranchLtSImm, skip)),
-            Op::BranchLeSImm => Ok(self.branch_on_a_x(Op::BranchLeSImm, skip)),
-            Op::BranchGeSImm => Ok(self.branch_on_a_x(Op::BranchGeSImm, skip)),
-            Op::BranchGtSImm => Ok(self.branch_on_a_x(Op::BranchGtSImm, skip)),
-            Op::MoveReg => Ok(self.move_reg(skip)),
-            Op::Sbrk => self.sbrk(skip),
-            Op::CountSetBits64 => Ok(self.give_of_a(Op::CountSetBits64, skip)),
-            Op::CountSetBits32 => Ok(self.give_of_a(Op::CountSetBits32, skip)),
-            Op::LeadingZeroBits64 => Ok(self.give_of_a(Op::LeadingZeroBits64, skip)),
-            Op::LeadingZeroBits32 => Ok(self.give_of_a(Op::LeadingZeroBits32, skip)),
-            Op::TrailingZeroBits64 => Ok(self.give_of_a(Op::TrailingZeroBits64, skip)),
-            Op::TrailingZeroBits32 => Ok(self.give_of_a(Op::TrailingZeroBits32, skip)),
-            Op::SignExtend8 => Ok(self.give_of_a(Op::SignExtend8, skip)),
-            Op::SignExtend16 => Ok(self.give_of_a(Op::SignExtend16, skip)),
-            Op::ZeroExtend16 => Ok(self.give_of_a(Op::ZeroExtend16, skip)),
-            Op::ReverseBytes => Ok(self.give_of_a(Op::ReverseBytes, skip)),
-            Op::StoreIndU8 => self.store_a_at_b_x(1, skip),
-            Op::StoreIndU16 => self.store_a_at_b_x(2, skip),
-            Op::StoreIndU32 => self.store_a_at_b_x(4, skip),
-            Op::StoreIndU64 => self.store_a_at_b_x(8, skip),
-            Op::LoadIndU8 => Ok(self.load_at_b_x(Op::LoadIndU8, 1, skip)),
-            Op::LoadIndI8 => Ok(self.load_at_b_x(Op::LoadIndI8, 1, skip)),
-            Op::LoadIndU16 => Ok(self.load_at_b_x(Op::LoadIndU16, 2, skip)),
-            Op::LoadIndI16 => Ok(self.load_at_b_x(Op::LoadIndI16, 2, skip)),
-            Op::LoadIndU32 => Ok(self.load_at_b_x(Op::LoadIndU32, 4, skip)),
-            Op::LoadIndI32 => Ok(self.load_at_b_x(Op::LoadIndI32, 4, skip)),
-            Op::LoadIndU64 => Ok(self.load_at_b_x(Op::LoadIndU64, 8, skip)),
-            Op::AddImm32 => Ok(self.give_of_b_x(Op::AddImm32, skip)),
-            Op::AndImm => Ok(self.give_of_b_x(Op::AndImm, skip)),
-            Op::XorImm => Ok(self.give_of_b_x(Op::XorImm, skip)),
-            Op::OrImm => Ok(self.give_of_b_x(Op::OrImm, skip)),
-            Op::MulImm32 => Ok(self.give_of_b_x(Op::MulImm32, skip)),
-            Op::SetLtUImm => Ok(self.give_of_b_x(Op::SetLtUImm, skip)),
-            Op::SetLtSImm => Ok(self.give_of_b_x(Op::SetLtSImm, skip)),
-            Op::ShloLImm32 => Ok(self.give_of_b_x(Op::ShloLImm32, skip)),
-            Op::ShloRImm32 => Ok(self.give_of_b_x(Op::ShloRImm32, skip)),
-            Op::SharRImm32 => Ok(self.give_of_b_x(Op::SharRImm32, skip)),
-            Op::NegAddImm32 => Ok(self.give_of_b_x(Op::NegAddImm32, skip)),
-            Op::SetGtUImm => Ok(self.give_of_b_x(Op::SetGtUImm, skip)),
-            Op::SetGtSImm => Ok(self.give_of_b_x(Op::SetGtSImm, skip)),
-            Op::ShloLImmAlt32 => Ok(self.give_of_b_x(Op::ShloLImmAlt32, skip)),
-            Op::ShloRImmAlt32 => Ok(self.give_of_b_x(Op::ShloRImmAlt32, skip)),
-            Op::SharRImmAlt32 => Ok(self.give_of_b_x(Op::SharRImmAlt32, skip)),
-            Op::CmovIzImm => Ok(self.cmov_iz_imm(skip)),
-            Op::CmovNzImm => Ok(self.cmov_nz_imm(skip)),
-            Op::AddImm64 => Ok(self.give_of_b_x(Op::AddImm64, skip)),
-            Op::MulImm64 => Ok(self.give_of_b_x(Op::MulImm64, skip)),
-            Op::ShloLImm64 => Ok(self.give_of_b_x(Op::ShloLImm64, skip)),
-            Op::ShloRImm64 => Ok(self.give_of_b_x(Op::ShloRImm64, skip)),
-            Op::SharRImm64 => Ok(self.give_of_b_x(Op::SharRImm64, skip)),
-            Op::NegAddImm64 => Ok(self.give_of_b_x(Op::NegAddImm64, skip)),
-            Op::ShloLImmAlt64 => Ok(self.give_of_b_x(Op::ShloLImmAlt64, skip)),
-            Op::ShloRImmAlt64 => Ok(self.give_of_b_x(Op::ShloRImmAlt64, skip)),
-            Op::SharRImmAlt64 => Ok(self.give_of_b_x(Op::SharRImmAlt64, skip)),
-            Op::RotR64Imm => Ok(self.give_of_b_x(Op::RotR64Imm, skip)),
-            Op::RotR64ImmAlt => Ok(self.give_of_b_x(Op::RotR64ImmAlt, skip)),
-            Op::RotR32Imm => Ok(self.give_of_b_x(Op::RotR32Imm, skip)),
-            Op::RotR32ImmAlt => Ok(self.give_of_b_x(Op::RotR32ImmAlt, skip)),
-            Op::BranchEq => Ok(self.branch_on_a_b(Op::BranchEq, skip)),
-            Op::BranchNe => Ok(self.branch_on_a_b(Op::BranchNe, skip)),
-            Op::BranchLtU => Ok(self.branch_on_a_b(Op::BranchLtU, skip)),
-            Op::BranchLtS => Ok(self.branch_on_a_b(Op::BranchLtS, skip)),
-            Op::BranchGeU => Ok(self.branch_on_a_b(Op::BranchGeU, skip)),
-            Op::BranchGeS => Ok(self.branch_on_a_b(Op::BranchGeS, skip)),
-            Op::LoadImmJumpInd => Ok(self.load_imm_jump_ind(skip)),
-            Op::Add32 => Ok(self.give_of_a_b(Op::Add32, skip)),
-            Op::Sub32 => Ok(self.give_of_a_b(Op::Sub32, skip)),
-            Op::Mul32 => Ok(self.give_of_a_b(Op::Mul32, skip)),
-            Op::DivU32 => Ok(self.give_of_a_b(Op::DivU32, skip)),
-            Op::DivS32 => Ok(self.give_of_a_b(Op::DivS32, skip)),
-            Op::RemU32 => Ok(self.give_of_a_b(Op::RemU32, skip)),
-            Op::RemS32 => Ok(self.give_of_a_b(Op::RemS32, skip)),
-            Op::ShloL32 => Ok(self.give_of_a_b(Op::ShloL32, skip)),
-            Op::ShloR32 => Ok(self.give_of_a_b(Op::ShloR32, skip)),
-            Op::SharR32 => Ok(self.give_of_a_b(Op::SharR32, skip)),
-            Op::Add64 => Ok(self.give_of_a_b(Op::Add64, skip)),
-            Op::Sub64 => Ok(self.give_of_a_b(Op::Sub64, skip)),
-            Op::Mul64 => Ok(self.give_of_a_b(Op::Mul64, skip)),
-            Op::DivU64 => Ok(self.give_of_a_b(Op::DivU64, skip)),
-            Op::DivS64 => Ok(self.give_of_a_b(Op::DivS64, skip)),
-            Op::RemU64 => Ok(self.give_of_a_b(Op::RemU64, skip)),
-            Op::RemS64 => Ok(self.give_of_a_b(Op::RemS64, skip)),
-            Op::ShloL64 => Ok(self.give_of_a_b(Op::ShloL64, skip)),
-            Op::ShloR64 => Ok(self.give_of_a_b(Op::ShloR64, skip)),
-            Op::SharR64 => Ok(self.give_of_a_b(Op::SharR64, skip)),
-            Op::And => Ok(self.give_of_a_b(Op::And, skip)),
-            Op::Xor => Ok(self.give_of_a_b(Op::Xor, skip)),
-            Op::Or => Ok(self.give_of_a_b(Op::Or, skip)),
-            Op::MulUpperSS => Ok(self.give_of_a_b(Op::MulUpperSS, skip)),
-            Op::MulUpperUU => Ok(self.give_of_a_b(Op::MulUpperUU, skip)),
-            Op::MulUpperSU => Ok(self.give_of_a_b(Op::MulUpperSU, skip)),
-            Op::SetLtU => Ok(self.give_of_a_b(Op::SetLtU, skip)),
-            Op::SetLtS => Ok(self.give_of_a_b(Op::SetLtS, skip)),
-            Op::CmovIz => Ok(self.cmov_iz(skip)),
-            Op::CmovNz => Ok(self.cmov_nz(skip)),
-            Op::RotL64 => Ok(self.give_of_a_b(Op::RotL64, skip)),
-            Op::RotL32 => Ok(self.give_of_a_b(Op::RotL32, skip)),
-            Op::RotR64 => Ok(self.give_of_a_b(Op::RotR64, skip)),
-            Op::RotR32 => Ok(self.give_of_a_b(Op::RotR32, skip)),
-            Op::AndInv => Ok(self.give_of_a_b(Op::AndInv, skip)),
-            Op::OrInv => Ok(self.give_of_a_b(Op::OrInv, skip)),
-            Op::Xnor => Ok(self.give_of_a_b(Op::Xnor, skip)),
-            Op::Max => Ok(self.give_of_a_b(Op::Max, skip)),
-            Op::MaxU => Ok(self.give_of_a_b(Op::MaxU, skip)),
-            Op::Min => Ok(self.give_of_a_b(Op::Min, skip)),
-            Op::MinU => Ok(self.give_of_a_b(Op::MinU, skip)),
+        match self.act_on_registers(op, skip) {
+            Went::On => Ok(None),
+            Went::Panics => Ok(Some(Exit::Panic)),
+            Went::Beyond => self.act_beyond(op, skip),
         }
     }
 }

@@ -2,7 +2,7 @@
 ghost use Rattle.std.specs.Prelude.{◌≡◌, ◌+◌};
 ghost use Rattle.pvm_step.specs.Effect.{address};
 
-#[inline]
+#[inline(always)]
 pub fn address(sum: u64) -> u32
     ensures { result ≡ address sum }
 {
@@ -10,7 +10,7 @@ pub fn address(sum: u64) -> u32
 }
 
 /// The address at an offset.
-#[inline]
+#[inline(always)]
 pub fn address_from(base: u64, offset: u64) -> u32
     ensures { result ≡ address (base + offset) }
 {

@@ -1,5 +1,5 @@
 // Instructions that many opcodes have in common.
-ghost use Rattle.std.specs.Prelude.{◌≡◌, ◌<◌, ◌≤◌, ◌+◌, ◌==◌, not, IsTrue, None, length, IfOk, OnErr};
+ghost use Rattle.std.specs.Prelude.{◌≡◌, ◌<◌, ◌≤◌, ◌+◌, ◌==◌, not, IsTrue, true, None, length, IfOk, IsOk, OnErr};
 ghost use Rattle.pvm_isa.specs.Arguments.{arguments};
 ghost use Rattle.pvm_isa.specs.declared.form.Form.TheVariants.{F2, F3, F4, F5, F6, F7, F8, F9, F10, F11, F12, F13};
 ghost use Rattle.blob_decode.specs.Program as blob;
@@ -7,11 +7,12 @@ ghost use Rattle.paged_memory.specs.PageMap.{is_width};
 ghost use Rattle.pvm_alu.specs.Alu as alu;
 ghost use Rattle.pvm_step.specs.declared.exit.Exit.TheVariants.{Host};
 ghost use Rattle.pvm_step.specs.Effect.{Nothing, Exits, Gives, Jumps, JumpsThrough, GivesAndJumps, GivesAndJumpsThrough, Moves, Grows, gives_of_a, gives_of_a_b, gives_of_b_x, loads_at_x, loads_at_b_x, stores_y_at_x, stores_a_at_x, stores_y_at_a_x, stores_a_at_b_x, branches_on_a_x, branches_on_a_b, after, address, value_in};
-ghost use Rattle.pvm_step.specs.Machine.{state_of, after_of};
+ghost use Rattle.pvm_step.specs.Machine.{state_of, after_of, exit_after, is_done};
 
 use crate::address::{address, address_from};
 use crate::exit::Exit;
 use crate::machine::Machine;
+use crate::went::Went;
 use pvm_alu::{binary, test, unary};
 use pvm_isa::{
     Op, one_immediate, one_offset, register_and_immediate, register_and_two_immediates,
@@ -23,93 +24,108 @@ use std::alloc::AllocError;
 
 impl Machine {
     /// An operation with the values of two registers.
-    #[inline]
-    pub(crate) fn give_of_a_b(&mut self, op: Op, skip: u8) -> Option<Exit>
+    #[inline(always)]
+    pub(crate) fn give_of_a_b(&mut self, op: Op, skip: u8) -> Went
         requires operation { IsTrue (alu.is_binary op) }
         requires within { self.old.pc < length self.old.program.code }
         requires skip { skip ≡ blob.skip self.old.program self.old.pc }
         requires short { skip ≤ 24 }
-        ensures acts { after_of self.new result ≡ after self.old.program (state_of self.old) (gives_of_a_b op (arguments F13 self.old.program.code self.old.pc skip) (state_of self.old)) }
+        ensures acts { after_of self.new (exit_after result) ≡ after self.old.program (state_of self.old) (gives_of_a_b op (arguments F13 self.old.program.code self.old.pc skip) (state_of self.old)) }
+        ensures done { is_done result ≡ true }
         ensures program { self.new.program ≡ self.old.program }
         ensures gas { self.new.gas ≡ self.old.gas }
     {
         let at = three_registers(self.program.code(), self.pc);
         let value = binary(op, self.value(at.a), self.value(at.b));
         self.give(at.d, value, skip);
-        None
+        Went::On
     }
 
     /// An operation with the value of a register and an immediate.
-    #[inline]
-    pub(crate) fn give_of_b_x(&mut self, op: Op, skip: u8) -> Option<Exit>
+    #[inline(never)]
+    pub(crate) fn give_of_b_x(&mut self, op: Op, skip: u8) -> Went
         requires operation { IsTrue (alu.is_binary op) }
         requires within { self.old.pc < length self.old.program.code }
         requires skip { skip ≡ blob.skip self.old.program self.old.pc }
         requires short { skip ≤ 24 }
-        ensures acts { after_of self.new result ≡ after self.old.program (state_of self.old) (gives_of_b_x op (arguments F10 self.old.program.code self.old.pc skip) (state_of self.old)) }
+        ensures acts { after_of self.new (exit_after result) ≡ after self.old.program (state_of self.old) (gives_of_b_x op (arguments F10 self.old.program.code self.old.pc skip) (state_of self.old)) }
+        ensures done { is_done result ≡ true }
         ensures program { self.new.program ≡ self.old.program }
         ensures gas { self.new.gas ≡ self.old.gas }
     {
         let at = two_registers_and_immediate(self.program.code(), self.pc, skip);
         let value = binary(op, self.value(at.b), at.x);
         self.give(at.a, value, skip);
-        None
+        Went::On
     }
 
     /// An operation with the value of a register.
-    #[inline]
-    pub(crate) fn give_of_a(&mut self, op: Op, skip: u8) -> Option<Exit>
+    #[inline(always)]
+    pub(crate) fn give_of_a(&mut self, op: Op, skip: u8) -> Went
         requires operation { IsTrue (alu.is_unary op) }
         requires within { self.old.pc < length self.old.program.code }
         requires skip { skip ≡ blob.skip self.old.program self.old.pc }
         requires short { skip ≤ 24 }
-        ensures acts { after_of self.new result ≡ after self.old.program (state_of self.old) (gives_of_a op (arguments F9 self.old.program.code self.old.pc skip) (state_of self.old)) }
+        ensures acts { after_of self.new (exit_after result) ≡ after self.old.program (state_of self.old) (gives_of_a op (arguments F9 self.old.program.code self.old.pc skip) (state_of self.old)) }
+        ensures done { is_done result ≡ true }
         ensures program { self.new.program ≡ self.old.program }
         ensures gas { self.new.gas ≡ self.old.gas }
     {
         let at = two_registers(self.program.code(), self.pc);
         let value = unary(op, self.value(at.a));
         self.give(at.d, value, skip);
-        None
+        Went::On
     }
 
     /// A load at an immediate address.
-    #[inline]
-    pub(crate) fn load_at_x(&mut self, op: Op, width: u8, skip: u8) -> Option<Exit>
+    #[inline(never)]
+    pub(crate) fn load_at_x(
+        &mut self,
+        op: Op,
+        width: u8,
+        skip: u8,
+    ) -> Result<Option<Exit>, AllocError>
         requires loads { IsTrue (alu.is_load op) }
         requires width { alu.loaded_bytes op ≡ width }
         requires size { IsTrue (is_width width) }
         requires within { self.old.pc < length self.old.program.code }
         requires skip { skip ≡ blob.skip self.old.program self.old.pc }
         requires short { skip ≤ 24 }
-        ensures acts { after_of self.new result ≡ after self.old.program (state_of self.old) (loads_at_x op (arguments F6 self.old.program.code self.old.pc skip) (state_of self.old)) }
+        ensures acts { IfOk result (λ exit. after_of self.new exit ≡ after self.old.program (state_of self.old) (loads_at_x op (arguments F6 self.old.program.code self.old.pc skip) (state_of self.old))) }
+        ensures made { IsOk result }
         ensures program { self.new.program ≡ self.old.program }
         ensures gas { self.new.gas ≡ self.old.gas }
     {
         let at = register_and_immediate(self.program.code(), self.pc, skip);
-        self.load(at.a, op, width, address(at.x), skip)
+        Ok(self.load(at.a, op, width, address(at.x), skip))
     }
 
     /// A load at an address in a register, with an offset.
-    #[inline]
-    pub(crate) fn load_at_b_x(&mut self, op: Op, width: u8, skip: u8) -> Option<Exit>
+    #[inline(never)]
+    pub(crate) fn load_at_b_x(
+        &mut self,
+        op: Op,
+        width: u8,
+        skip: u8,
+    ) -> Result<Option<Exit>, AllocError>
         requires loads { IsTrue (alu.is_load op) }
         requires width { alu.loaded_bytes op ≡ width }
         requires size { IsTrue (is_width width) }
         requires within { self.old.pc < length self.old.program.code }
         requires skip { skip ≡ blob.skip self.old.program self.old.pc }
         requires short { skip ≤ 24 }
-        ensures acts { after_of self.new result ≡ after self.old.program (state_of self.old) (loads_at_b_x op (arguments F10 self.old.program.code self.old.pc skip) (state_of self.old)) }
+        ensures acts { IfOk result (λ exit. after_of self.new exit ≡ after self.old.program (state_of self.old) (loads_at_b_x op (arguments F10 self.old.program.code self.old.pc skip) (state_of self.old))) }
+        ensures made { IsOk result }
         ensures program { self.new.program ≡ self.old.program }
         ensures gas { self.new.gas ≡ self.old.gas }
     {
         let at = two_registers_and_immediate(self.program.code(), self.pc, skip);
         let from = address_from(self.value(at.b), at.x);
-        self.load(at.a, op, width, from, skip)
+        Ok(self.load(at.a, op, width, from, skip))
     }
 
     /// A store of an immediate at an immediate address.
-    #[inline]
+    #[inline(never)]
     pub(crate) fn store_y_at_x(&mut self, width: u8, skip: u8) -> Result<Option<Exit>, AllocError>
         requires size { IsTrue (is_width width) }
         requires within { self.old.pc < length self.old.program.code }
@@ -125,7 +141,7 @@ impl Machine {
     }
 
     /// A store of a register at an immediate address.
-    #[inline]
+    #[inline(never)]
     pub(crate) fn store_a_at_x(&mut self, width: u8, skip: u8) -> Result<Option<Exit>, AllocError>
         requires size { IsTrue (is_width width) }
         requires within { self.old.pc < length self.old.program.code }
@@ -142,7 +158,7 @@ impl Machine {
     }
 
     /// A store of an immediate at an address in a register, with an offset.
-    #[inline]
+    #[inline(never)]
     pub(crate) fn store_y_at_a_x(&mut self, width: u8, skip: u8) -> Result<Option<Exit>, AllocError>
         requires size { IsTrue (is_width width) }
         requires within { self.old.pc < length self.old.program.code }
@@ -159,7 +175,7 @@ impl Machine {
     }
 
     /// A store of a register at an address in another, with an offset.
-    #[inline]
+    #[inline(never)]
     pub(crate) fn store_a_at_b_x(&mut self, width: u8, skip: u8) -> Result<Option<Exit>, AllocError>
         requires size { IsTrue (is_width width) }
         requires within { self.old.pc < length self.old.program.code }
@@ -177,13 +193,14 @@ impl Machine {
     }
 
     /// A branch on the value of a register and an immediate.
-    #[inline]
-    pub(crate) fn branch_on_a_x(&mut self, op: Op, skip: u8) -> Option<Exit>
+    #[inline(never)]
+    pub(crate) fn branch_on_a_x(&mut self, op: Op, skip: u8) -> Went
         requires operation { IsTrue (alu.is_test op) }
         requires within { self.old.pc < length self.old.program.code }
         requires skip { skip ≡ blob.skip self.old.program self.old.pc }
         requires short { skip ≤ 24 }
-        ensures acts { after_of self.new result ≡ after self.old.program (state_of self.old) (branches_on_a_x op (arguments F8 self.old.program.code self.old.pc skip) (state_of self.old)) }
+        ensures acts { after_of self.new (exit_after result) ≡ after self.old.program (state_of self.old) (branches_on_a_x op (arguments F8 self.old.program.code self.old.pc skip) (state_of self.old)) }
+        ensures done { is_done result ≡ true }
         ensures program { self.new.program ≡ self.old.program }
         ensures gas { self.new.gas ≡ self.old.gas }
     {
@@ -193,13 +210,14 @@ impl Machine {
     }
 
     /// A branch on the values of two registers.
-    #[inline]
-    pub(crate) fn branch_on_a_b(&mut self, op: Op, skip: u8) -> Option<Exit>
+    #[inline(never)]
+    pub(crate) fn branch_on_a_b(&mut self, op: Op, skip: u8) -> Went
         requires operation { IsTrue (alu.is_test op) }
         requires within { self.old.pc < length self.old.program.code }
         requires skip { skip ≡ blob.skip self.old.program self.old.pc }
         requires short { skip ≤ 24 }
-        ensures acts { after_of self.new result ≡ after self.old.program (state_of self.old) (branches_on_a_b op (arguments F11 self.old.program.code self.old.pc skip) (state_of self.old)) }
+        ensures acts { after_of self.new (exit_after result) ≡ after self.old.program (state_of self.old) (branches_on_a_b op (arguments F11 self.old.program.code self.old.pc skip) (state_of self.old)) }
+        ensures done { is_done result ≡ true }
         ensures program { self.new.program ≡ self.old.program }
         ensures gas { self.new.gas ≡ self.old.gas }
     {

@@ -1,15 +1,16 @@
 // The kinds of effects, over values that are read already.
-ghost use Rattle.std.specs.Prelude.{◌≡◌, ◌<◌, ◌≤◌, ◌+◌, ◌%◌, ◌^◌, IsTrue, None, set, IfOk, OnOk, OnErr};
+ghost use Rattle.std.specs.Prelude.{◌≡◌, ◌<◌, ◌≤◌, ◌+◌, ◌%◌, ◌^◌, IsTrue, true, None, set, IfOk, OnOk, OnErr};
 ghost use Rattle.blob_decode.specs.Program as blob;
 ghost use Rattle.blob_decode.specs.Program.{next, jump_to, jump_through};
 ghost use Rattle.paged_memory.specs.PageMap.{is_width};
 ghost use Rattle.pvm_alu.specs.Alu as alu;
 ghost use Rattle.pvm_step.specs.Effect.{Gives, Loads, Stores, Branches, Moves, Grows, after, lands, grown, value_in, exit_of};
-ghost use Rattle.pvm_step.specs.Machine.{state_of, after_of};
+ghost use Rattle.pvm_step.specs.Machine.{state_of, after_of, exit_after, is_done};
 
 use crate::exit::Exit;
 use crate::heap::Heap;
 use crate::machine::Machine;
+use crate::went::Went;
 use paged_memory::{Access, StoreRefusal};
 use pvm_alu::widen;
 use pvm_isa::Op;
@@ -17,7 +18,7 @@ use std::alloc::AllocError;
 
 const HALT_ADDRESS: u64 = 4_294_901_760;
 
-#[inline]
+#[inline(always)]
 fn exit_of(access: Access) -> Exit
     ensures { result ≡ exit_of access }
 {
@@ -29,7 +30,7 @@ fn exit_of(access: Access) -> Exit
 
 impl Machine {
     /// The value of a register.
-    #[inline]
+    #[inline(always)]
     pub(crate) fn value(&self, register: u8) -> u64
         requires { register < 13 }
         ensures { result ≡ value_in (state_of self.now) register }
@@ -38,7 +39,7 @@ impl Machine {
     }
 
     /// Goes to the next instruction.
-    #[inline]
+    #[inline(always)]
     pub(crate) fn go_on(&mut self, skip: u8)
         requires place { self.old.pc < 2 ^ 63 }
         requires skip { skip ≡ blob.skip self.old.program self.old.pc }
@@ -48,7 +49,7 @@ impl Machine {
     }
 
     /// Sets a register, and goes to the next instruction.
-    #[inline]
+    #[inline(always)]
     #[tactic(auto, unfolding(crate::specs::Effect::after))]
     pub(crate) fn give(&mut self, register: u8, value: u64, skip: u8)
         requires register { register < 13 }
@@ -63,7 +64,7 @@ impl Machine {
     }
 
     /// Sets a register where the test holds, and goes to the next instruction.
-    #[inline]
+    #[inline(always)]
     #[tactic(auto, unfolding(crate::specs::Effect::after))]
     pub(crate) fn move_where(&mut self, holds: bool, register: u8, value: u64, skip: u8)
         requires register { register < 13 }
@@ -138,18 +139,19 @@ impl Machine {
     }
 
     /// Jumps to a target, where a block begins there.
-    #[inline]
-    pub(crate) fn jump(&mut self, target: Option<u64>) -> Option<Exit>
-        ensures landed { after_of self.new result ≡ lands (state_of self.old) (jump_to self.old.program target) }
+    #[inline(always)]
+    pub(crate) fn jump(&mut self, target: Option<u64>) -> Went
+        ensures landed { after_of self.new (exit_after result) ≡ lands (state_of self.old) (jump_to self.old.program target) }
+        ensures done { is_done result ≡ true }
         ensures program { self.new.program ≡ self.old.program }
         ensures gas { self.new.gas ≡ self.old.gas }
     {
         match target {
             Some(place) if self.program.is_start(place) => {
                 self.pc = place;
-                None
+                Went::On
             }
-            _ => Some(Exit::Panic),
+            _ => Went::Panics,
         }
     }
 
@@ -167,16 +169,20 @@ impl Machine {
             return Some(Exit::Panic);
         }
         let target = self.program.jump_at(u64::from(address) / 2 - 1);
-        self.jump(target)
+        match self.jump(target) {
+            Went::On => None,
+            _ => Some(Exit::Panic),
+        }
     }
 
     /// Jumps to a target where the test holds.
-    #[inline]
+    #[inline(always)]
     #[tactic(auto, unfolding(crate::specs::Effect::after))]
-    pub(crate) fn branch(&mut self, taken: bool, target: Option<u64>, skip: u8) -> Option<Exit>
+    pub(crate) fn branch(&mut self, taken: bool, target: Option<u64>, skip: u8) -> Went
         requires place { self.old.pc < 2 ^ 63 }
         requires skip { skip ≡ blob.skip self.old.program self.old.pc }
-        ensures acts { after_of self.new result ≡ after self.old.program (state_of self.old) (Branches taken target) }
+        ensures acts { after_of self.new (exit_after result) ≡ after self.old.program (state_of self.old) (Branches taken target) }
+        ensures done { is_done result ≡ true }
         ensures program { self.new.program ≡ self.old.program }
         ensures gas { self.new.gas ≡ self.old.gas }
     {
@@ -184,11 +190,11 @@ impl Machine {
             return self.jump(target);
         }
         self.go_on(skip);
-        None
+        Went::On
     }
 
     /// Sets a register.
-    #[inline]
+    #[inline(always)]
     pub(crate) fn set(&mut self, register: u8, value: u64)
         requires { register < 13 }
         ensures { self.new ≡ record self.old { registers = set self.old.registers register value } }

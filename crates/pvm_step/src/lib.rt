@@ -10,8 +10,12 @@ mod kinds;
 mod laws;
 mod machine;
 mod singles;
+mod went;
 
 pub use exit::{Exit, HostStep, Progress};
 pub use heap::Heap;
 pub use laws::{effect_laws, history_laws, run_laws};
 pub use machine::Machine;
+
+#[cfg(test)]
+mod tests;

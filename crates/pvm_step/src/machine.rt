@@ -59,7 +59,7 @@ impl Machine {
     }
 
     // What the instruction at the pc does; past the code it panics.
-    #[inline]
+    #[inline(always)]
     #[tactic(auto, unfolding(crate::specs::Effect::effect))]
     fn take_effect(&mut self) -> Result<Option<Exit>, AllocError>
         ensures effect { IfOk result (λ exit. after_of self.new exit ≡ effect self.old.program (state_of self.old)) }

@@ -1,5 +1,5 @@
 // Instructions of one opcode each.
-ghost use Rattle.std.specs.Prelude.{◌≡◌, ◌<◌, ◌≤◌, ◌+◌, ◌==◌, not, IsTrue, None, length, IfOk, OnErr};
+ghost use Rattle.std.specs.Prelude.{◌≡◌, ◌<◌, ◌≤◌, ◌+◌, ◌==◌, not, IsTrue, true, None, length, IfOk, IsOk, OnErr};
 ghost use Rattle.pvm_isa.specs.Arguments.{arguments};
 ghost use Rattle.pvm_isa.specs.declared.form.Form.TheVariants.{F2, F3, F4, F5, F6, F7, F8, F9, F10, F11, F12, F13};
 ghost use Rattle.blob_decode.specs.Program as blob;
@@ -7,11 +7,12 @@ ghost use Rattle.paged_memory.specs.PageMap.{is_width};
 ghost use Rattle.pvm_alu.specs.Alu as alu;
 ghost use Rattle.pvm_step.specs.declared.exit.Exit.TheVariants.{Host};
 ghost use Rattle.pvm_step.specs.Effect.{Nothing, Exits, Gives, Jumps, JumpsThrough, GivesAndJumps, GivesAndJumpsThrough, Moves, Grows, gives_of_a, gives_of_a_b, gives_of_b_x, loads_at_x, loads_at_b_x, stores_y_at_x, stores_a_at_x, stores_y_at_a_x, stores_a_at_b_x, branches_on_a_x, branches_on_a_b, after, address, value_in};
-ghost use Rattle.pvm_step.specs.Machine.{state_of, after_of};
+ghost use Rattle.pvm_step.specs.Machine.{state_of, after_of, exit_after, is_done};
 
 use crate::address::{address, address_from};
 use crate::exit::Exit;
 use crate::machine::Machine;
+use crate::went::Went;
 use pvm_alu::{binary, test, unary};
 use pvm_isa::{
     Op, one_immediate, one_offset, register_and_immediate, register_and_two_immediates,
@@ -23,23 +24,24 @@ use std::alloc::AllocError;
 
 impl Machine {
     /// Nothing.
-    #[inline]
+    #[inline(always)]
     #[tactic(auto, unfolding(crate::specs::Effect::after))]
-    pub(crate) fn fall_through(&mut self, skip: u8) -> Option<Exit>
+    pub(crate) fn fall_through(&mut self, skip: u8) -> Went
         requires within { self.old.pc < length self.old.program.code }
         requires skip { skip ≡ blob.skip self.old.program self.old.pc }
         requires short { skip ≤ 24 }
-        ensures acts { after_of self.new result ≡ after self.old.program (state_of self.old) (Nothing) }
+        ensures acts { after_of self.new (exit_after result) ≡ after self.old.program (state_of self.old) (Nothing) }
+        ensures done { is_done result ≡ true }
         ensures program { self.new.program ≡ self.old.program }
         ensures gas { self.new.gas ≡ self.old.gas }
     {
         let _code = self.program.code();
         self.go_on(skip);
-        None
+        Went::On
     }
 
     /// A host call.
-    #[inline]
+    #[inline(always)]
     #[tactic(auto, unfolding(crate::specs::Effect::after))]
     pub(crate) fn call_host(&mut self, skip: u8) -> Option<Exit>
         requires within { self.old.pc < length self.old.program.code }
@@ -54,53 +56,56 @@ impl Machine {
     }
 
     /// An immediate of 64 bits.
-    #[inline]
-    pub(crate) fn load_imm_64(&mut self, skip: u8) -> Option<Exit>
+    #[inline(never)]
+    pub(crate) fn load_imm_64(&mut self, skip: u8) -> Went
         requires within { self.old.pc < length self.old.program.code }
         requires skip { skip ≡ blob.skip self.old.program self.old.pc }
         requires short { skip ≤ 24 }
-        ensures acts { after_of self.new result ≡ after self.old.program (state_of self.old) (Gives (arguments F3 self.old.program.code self.old.pc skip).a (arguments F3 self.old.program.code self.old.pc skip).x) }
+        ensures acts { after_of self.new (exit_after result) ≡ after self.old.program (state_of self.old) (Gives (arguments F3 self.old.program.code self.old.pc skip).a (arguments F3 self.old.program.code self.old.pc skip).x) }
+        ensures done { is_done result ≡ true }
         ensures program { self.new.program ≡ self.old.program }
         ensures gas { self.new.gas ≡ self.old.gas }
     {
         let at = register_and_wide_immediate(self.program.code(), self.pc);
         self.give(at.a, at.x, skip);
-        None
+        Went::On
     }
 
     /// An immediate.
-    #[inline]
-    pub(crate) fn load_imm(&mut self, skip: u8) -> Option<Exit>
+    #[inline(never)]
+    pub(crate) fn load_imm(&mut self, skip: u8) -> Went
         requires within { self.old.pc < length self.old.program.code }
         requires skip { skip ≡ blob.skip self.old.program self.old.pc }
         requires short { skip ≤ 24 }
-        ensures acts { after_of self.new result ≡ after self.old.program (state_of self.old) (Gives (arguments F6 self.old.program.code self.old.pc skip).a (arguments F6 self.old.program.code self.old.pc skip).x) }
+        ensures acts { after_of self.new (exit_after result) ≡ after self.old.program (state_of self.old) (Gives (arguments F6 self.old.program.code self.old.pc skip).a (arguments F6 self.old.program.code self.old.pc skip).x) }
+        ensures done { is_done result ≡ true }
         ensures program { self.new.program ≡ self.old.program }
         ensures gas { self.new.gas ≡ self.old.gas }
     {
         let at = register_and_immediate(self.program.code(), self.pc, skip);
         self.give(at.a, at.x, skip);
-        None
+        Went::On
     }
 
     /// A register's value.
-    #[inline]
-    pub(crate) fn move_reg(&mut self, skip: u8) -> Option<Exit>
+    #[inline(always)]
+    pub(crate) fn move_reg(&mut self, skip: u8) -> Went
         requires within { self.old.pc < length self.old.program.code }
         requires skip { skip ≡ blob.skip self.old.program self.old.pc }
         requires short { skip ≤ 24 }
-        ensures acts { after_of self.new result ≡ after self.old.program (state_of self.old) (Gives (arguments F9 self.old.program.code self.old.pc skip).d (value_in (state_of self.old) (arguments F9 self.old.program.code self.old.pc skip).a)) }
+        ensures acts { after_of self.new (exit_after result) ≡ after self.old.program (state_of self.old) (Gives (arguments F9 self.old.program.code self.old.pc skip).d (value_in (state_of self.old) (arguments F9 self.old.program.code self.old.pc skip).a)) }
+        ensures done { is_done result ≡ true }
         ensures program { self.new.program ≡ self.old.program }
         ensures gas { self.new.gas ≡ self.old.gas }
     {
         let at = two_registers(self.program.code(), self.pc);
         let value = self.value(at.a);
         self.give(at.d, value, skip);
-        None
+        Went::On
     }
 
     /// More heap.
-    #[inline]
+    #[inline(never)]
     pub(crate) fn sbrk(&mut self, skip: u8) -> Result<Option<Exit>, AllocError>
         requires within { self.old.pc < length self.old.program.code }
         requires skip { skip ≡ blob.skip self.old.program self.old.pc }
@@ -117,44 +122,47 @@ impl Machine {
     }
 
     /// An immediate where a register is 0.
-    #[inline]
-    pub(crate) fn cmov_iz_imm(&mut self, skip: u8) -> Option<Exit>
+    #[inline(never)]
+    pub(crate) fn cmov_iz_imm(&mut self, skip: u8) -> Went
         requires within { self.old.pc < length self.old.program.code }
         requires skip { skip ≡ blob.skip self.old.program self.old.pc }
         requires short { skip ≤ 24 }
-        ensures acts { after_of self.new result ≡ after self.old.program (state_of self.old) (Moves ((value_in (state_of self.old) (arguments F10 self.old.program.code self.old.pc skip).b) == 0) (arguments F10 self.old.program.code self.old.pc skip).a (arguments F10 self.old.program.code self.old.pc skip).x) }
+        ensures acts { after_of self.new (exit_after result) ≡ after self.old.program (state_of self.old) (Moves ((value_in (state_of self.old) (arguments F10 self.old.program.code self.old.pc skip).b) == 0) (arguments F10 self.old.program.code self.old.pc skip).a (arguments F10 self.old.program.code self.old.pc skip).x) }
+        ensures done { is_done result ≡ true }
         ensures program { self.new.program ≡ self.old.program }
         ensures gas { self.new.gas ≡ self.old.gas }
     {
         let at = two_registers_and_immediate(self.program.code(), self.pc, skip);
         let holds = self.value(at.b) == 0;
         self.move_where(holds, at.a, at.x, skip);
-        None
+        Went::On
     }
 
     /// An immediate where a register is not 0.
-    #[inline]
-    pub(crate) fn cmov_nz_imm(&mut self, skip: u8) -> Option<Exit>
+    #[inline(never)]
+    pub(crate) fn cmov_nz_imm(&mut self, skip: u8) -> Went
         requires within { self.old.pc < length self.old.program.code }
         requires skip { skip ≡ blob.skip self.old.program self.old.pc }
         requires short { skip ≤ 24 }
-        ensures acts { after_of self.new result ≡ after self.old.program (state_of self.old) (Moves (not ((value_in (state_of self.old) (arguments F10 self.old.program.code self.old.pc skip).b) == 0)) (arguments F10 self.old.program.code self.old.pc skip).a (arguments F10 self.old.program.code self.old.pc skip).x) }
+        ensures acts { after_of self.new (exit_after result) ≡ after self.old.program (state_of self.old) (Moves (not ((value_in (state_of self.old) (arguments F10 self.old.program.code self.old.pc skip).b) == 0)) (arguments F10 self.old.program.code self.old.pc skip).a (arguments F10 self.old.program.code self.old.pc skip).x) }
+        ensures done { is_done result ≡ true }
         ensures program { self.new.program ≡ self.old.program }
         ensures gas { self.new.gas ≡ self.old.gas }
     {
         let at = two_registers_and_immediate(self.program.code(), self.pc, skip);
         let holds = self.value(at.b) != 0;
         self.move_where(holds, at.a, at.x, skip);
-        None
+        Went::On
     }
 
     /// A register's value where another is 0.
-    #[inline]
-    pub(crate) fn cmov_iz(&mut self, skip: u8) -> Option<Exit>
+    #[inline(always)]
+    pub(crate) fn cmov_iz(&mut self, skip: u8) -> Went
         requires within { self.old.pc < length self.old.program.code }
         requires skip { skip ≡ blob.skip self.old.program self.old.pc }
         requires short { skip ≤ 24 }
-        ensures acts { after_of self.new result ≡ after self.old.program (state_of self.old) (Moves ((value_in (state_of self.old) (arguments F13 self.old.program.code self.old.pc skip).b) == 0) (arguments F13 self.old.program.code self.old.pc skip).d (value_in (state_of self.old) (arguments F13 self.old.program.code self.old.pc skip).a)) }
+        ensures acts { after_of self.new (exit_after result) ≡ after self.old.program (state_of self.old) (Moves ((value_in (state_of self.old) (arguments F13 self.old.program.code self.old.pc skip).b) == 0) (arguments F13 self.old.program.code self.old.pc skip).d (value_in (state_of self.old) (arguments F13 self.old.program.code self.old.pc skip).a)) }
+        ensures done { is_done result ≡ true }
         ensures program { self.new.program ≡ self.old.program }
         ensures gas { self.new.gas ≡ self.old.gas }
     {
@@ -162,16 +170,17 @@ impl Machine {
         let holds = self.value(at.b) == 0;
         let value = self.value(at.a);
         self.move_where(holds, at.d, value, skip);
-        None
+        Went::On
     }
 
     /// A register's value where another is not 0.
-    #[inline]
-    pub(crate) fn cmov_nz(&mut self, skip: u8) -> Option<Exit>
+    #[inline(always)]
+    pub(crate) fn cmov_nz(&mut self, skip: u8) -> Went
         requires within { self.old.pc < length self.old.program.code }
         requires skip { skip ≡ blob.skip self.old.program self.old.pc }
         requires short { skip ≤ 24 }
-        ensures acts { after_of self.new result ≡ after self.old.program (state_of self.old) (Moves (not ((value_in (state_of self.old) (arguments F13 self.old.program.code self.old.pc skip).b) == 0)) (arguments F13 self.old.program.code self.old.pc skip).d (value_in (state_of self.old) (arguments F13 self.old.program.code self.old.pc skip).a)) }
+        ensures acts { after_of self.new (exit_after result) ≡ after self.old.program (state_of self.old) (Moves (not ((value_in (state_of self.old) (arguments F13 self.old.program.code self.old.pc skip).b) == 0)) (arguments F13 self.old.program.code self.old.pc skip).d (value_in (state_of self.old) (arguments F13 self.old.program.code self.old.pc skip).a)) }
+        ensures done { is_done result ≡ true }
         ensures program { self.new.program ≡ self.old.program }
         ensures gas { self.new.gas ≡ self.old.gas }
     {
@@ -179,17 +188,18 @@ impl Machine {
         let holds = self.value(at.b) != 0;
         let value = self.value(at.a);
         self.move_where(holds, at.d, value, skip);
-        None
+        Went::On
     }
 
     /// A jump.
-    #[inline]
+    #[inline(never)]
     #[tactic(auto, unfolding(crate::specs::Effect::after))]
-    pub(crate) fn jump_on(&mut self, skip: u8) -> Option<Exit>
+    pub(crate) fn jump_on(&mut self, skip: u8) -> Went
         requires within { self.old.pc < length self.old.program.code }
         requires skip { skip ≡ blob.skip self.old.program self.old.pc }
         requires short { skip ≤ 24 }
-        ensures acts { after_of self.new result ≡ after self.old.program (state_of self.old) (Jumps (arguments F5 self.old.program.code self.old.pc skip).target) }
+        ensures acts { after_of self.new (exit_after result) ≡ after self.old.program (state_of self.old) (Jumps (arguments F5 self.old.program.code self.old.pc skip).target) }
+        ensures done { is_done result ≡ true }
         ensures program { self.new.program ≡ self.old.program }
         ensures gas { self.new.gas ≡ self.old.gas }
     {
@@ -198,51 +208,55 @@ impl Machine {
     }
 
     /// A jump through the jump table.
-    #[inline]
+    #[inline(never)]
     #[tactic(auto, unfolding(crate::specs::Effect::after))]
-    pub(crate) fn jump_ind(&mut self, skip: u8) -> Option<Exit>
+    pub(crate) fn jump_ind(&mut self, skip: u8) -> Result<Option<Exit>, AllocError>
         requires within { self.old.pc < length self.old.program.code }
         requires skip { skip ≡ blob.skip self.old.program self.old.pc }
         requires short { skip ≤ 24 }
-        ensures acts { after_of self.new result ≡ after self.old.program (state_of self.old) (JumpsThrough (address ((value_in (state_of self.old) (arguments F6 self.old.program.code self.old.pc skip).a) + (arguments F6 self.old.program.code self.old.pc skip).x))) }
+        ensures acts { IfOk result (λ exit. after_of self.new exit ≡ after self.old.program (state_of self.old) (JumpsThrough (address ((value_in (state_of self.old) (arguments F6 self.old.program.code self.old.pc skip).a) + (arguments F6 self.old.program.code self.old.pc skip).x)))) }
+        ensures made { IsOk result }
         ensures program { self.new.program ≡ self.old.program }
         ensures gas { self.new.gas ≡ self.old.gas }
     {
         let at = register_and_immediate(self.program.code(), self.pc, skip);
         let through = address_from(self.value(at.a), at.x);
-        self.jump_through(through)
+        Ok(self.jump_through(through))
     }
 
     /// A jump, after a register got an immediate.
-    #[inline]
+    #[inline(never)]
     #[tactic(auto, unfolding(crate::specs::Effect::after))]
-    pub(crate) fn load_imm_jump(&mut self, skip: u8) -> Option<Exit>
+    pub(crate) fn load_imm_jump(&mut self, skip: u8) -> Went
         requires within { self.old.pc < length self.old.program.code }
         requires skip { skip ≡ blob.skip self.old.program self.old.pc }
         requires short { skip ≤ 24 }
-        ensures acts { after_of self.new result ≡ after self.old.program (state_of self.old) (GivesAndJumps (arguments F8 self.old.program.code self.old.pc skip).a (arguments F8 self.old.program.code self.old.pc skip).x (arguments F8 self.old.program.code self.old.pc skip).target) }
+        ensures acts { after_of self.new (exit_after result) ≡ after self.old.program (state_of self.old) (GivesAndJumps (arguments F8 self.old.program.code self.old.pc skip).a (arguments F8 self.old.program.code self.old.pc skip).x (arguments F8 self.old.program.code self.old.pc skip).target) }
+        ensures done { is_done result ≡ true }
         ensures program { self.new.program ≡ self.old.program }
         ensures gas { self.new.gas ≡ self.old.gas }
     {
         let at = register_immediate_and_offset(self.program.code(), self.pc, skip);
+        let target = at.target;
         self.set(at.a, at.x);
-        self.jump(at.target)
+        self.jump(target)
     }
 
     /// A jump through the jump table by a register's old value, after a register got an immediate.
-    #[inline]
+    #[inline(never)]
     #[tactic(auto, unfolding(crate::specs::Effect::after))]
-    pub(crate) fn load_imm_jump_ind(&mut self, skip: u8) -> Option<Exit>
+    pub(crate) fn load_imm_jump_ind(&mut self, skip: u8) -> Result<Option<Exit>, AllocError>
         requires within { self.old.pc < length self.old.program.code }
         requires skip { skip ≡ blob.skip self.old.program self.old.pc }
         requires short { skip ≤ 24 }
-        ensures acts { after_of self.new result ≡ after self.old.program (state_of self.old) (GivesAndJumpsThrough (arguments F12 self.old.program.code self.old.pc skip).a (arguments F12 self.old.program.code self.old.pc skip).x (address ((value_in (state_of self.old) (arguments F12 self.old.program.code self.old.pc skip).b) + (arguments F12 self.old.program.code self.old.pc skip).y))) }
+        ensures acts { IfOk result (λ exit. after_of self.new exit ≡ after self.old.program (state_of self.old) (GivesAndJumpsThrough (arguments F12 self.old.program.code self.old.pc skip).a (arguments F12 self.old.program.code self.old.pc skip).x (address ((value_in (state_of self.old) (arguments F12 self.old.program.code self.old.pc skip).b) + (arguments F12 self.old.program.code self.old.pc skip).y)))) }
+        ensures made { IsOk result }
         ensures program { self.new.program ≡ self.old.program }
         ensures gas { self.new.gas ≡ self.old.gas }
     {
         let at = two_registers_and_two_immediates(self.program.code(), self.pc, skip);
-        let through = address_from(self.value(at.b), at.y);
+        let by = address_from(self.value(at.b), at.y);
         self.set(at.a, at.x);
-        self.jump_through(through)
+        Ok(self.jump_through(by))
     }
 }

@@ -1,4 +1,4 @@
-use Rattle.std.proofs.Common.{ℕ, ◌<◌, length, ap, arith}
+use Rattle.std.proofs.Common.{length, ap, arith}
 use Rattle.blob_decode.specs.Program.{Program}
 use Rattle.pvm_step.specs.Machine.{Machine}
 use Rattle.pvm_step.proofs.Effects.{within-ecalli}

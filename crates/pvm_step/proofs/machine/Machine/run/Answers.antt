@@ -1,7 +1,7 @@
-use Rattle.std.proofs.Common.{◌≡◌, sym, ◌∙◌, ap, Some, None, refl}
+use Rattle.std.proofs.Common.{sym, ◌∙◌, ap, Some, None, refl}
 use Rattle.blob_decode.specs.Program.{Program}
 use Rattle.pvm_step.specs.Machine.{state_of, moment}
-use Rattle.pvm_step.specs.History.{Moment, step, reached}
+use Rattle.pvm_step.specs.History.{step}
 use Rattle.pvm_step.proofs.Reached.{reached-none, made-more, made-last}
 use Rattle.pvm_step.proofs.machine.Machine.run.Goals as goal
 

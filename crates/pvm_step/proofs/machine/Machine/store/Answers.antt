@@ -1,14 +1,10 @@
-use Rattle.std.proofs.Common.{◌≡◌, ap, sym, ◌∙◌, subst, refl, Some, None, Ok, Err}
-use Rattle.std.specs.Prelude.{◌↔◌}
-use Rattle.paged_memory.specs.declared.rights.Rights.TheVariants as may
-use Rattle.paged_memory.specs.declared.access.Access.{Access}
-use Rattle.paged_memory.specs.declared.access.StoreRefusal.TheVariants as refused
-use Rattle.paged_memory.specs.PageMap.{Memory, refusal}
+use Rattle.std.proofs.Common.{ap, sym, ◌∙◌, None}
+use Rattle.paged_memory.specs.PageMap.{Memory}
 use Rattle.blob_decode.specs.Program.{next}
 use Rattle.pvm_step.specs.Machine.{Machine, state_of, after_of}
 use Rattle.pvm_step.specs.contracts.machine.Machine.{the_view}
 use Rattle.pvm_step.specs.declared.exit.Exit.{Exit}
-use Rattle.pvm_step.specs.Effect.{after, Stores, goes, stops, exit_of}
+use Rattle.pvm_step.specs.Effect.{after, Stores, goes, stops}
 use Rattle.pvm_step.proofs.Effects.{stored-at, refused-at, allowed, forbidden}
 use Rattle.pvm_step.proofs.machine.Machine.store.Goals as goal
 

@@ -1,0 +1,13 @@
+// What came of an attempt at an instruction.
+
+/// What came of an attempt to do an instruction on the registers alone. It fits a processor's
+/// register, so that the run's loop moves no exit.
+#[derive(Clone, Copy, Debug, PartialEq, Eq)]
+pub enum Went {
+    /// It was done.
+    On,
+    /// It was done, and it panics.
+    Panics,
+    /// Nothing was done: the opcode needs more than the registers.
+    Beyond,
+}
