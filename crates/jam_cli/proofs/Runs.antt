@@ -23,49 +23,6 @@ follows (Some x) P Q f h = f x refl h
 rose_before : (v u w : ℕ) → v ≤ u → Rose u w → Rose v w
 rose_before v u w later rose = omega (arith, later, rose)
 
-module _ (v w : VaultState) (s t : SinkState) (c : Command) (text : List ℕ) (entry : Option (List ℕ × List ℕ)) (m : Makes v w c text entry) where
-  -- what is told of the files of a command that were read, and what was made of them
-  abbrev MadeOf : Files → Type 0
-  MadeOf files = (values : Values (inputs c)) × Gives files c values × (text ≡ printed c values) × (entry ≡ stored c values)
-
-  text_printed : (x : VaultState) → Appends s.taken t.taken text → IfSome v.files (λ files. PrintedAll (call v x s t) files c)
-  text_printed x all = follows v.files MadeOf (λ files. PrintedAll (call v x s t) files c) (λ files told made.
-      (made.0, made.1, subst (Appends s.taken t.taken) made.2 all)) m.gives
-
-  prefix_printed : (x : VaultState) → AppendsPrefix s.taken t.taken text → IfSome v.files (λ files. PrintedPrefix (call v x s t) files c)
-  prefix_printed x some = follows v.files MadeOf (λ files. PrintedPrefix (call v x s t) files c) (λ files told made.
-      (made.0, made.1, subst (AppendsPrefix s.taken t.taken) made.2 some)) m.gives
-
-  whole_prefix : Appends s.taken t.taken text → AppendsPrefix s.taken t.taken text
-  whole_prefix all = (length text, subst (Appends s.taken t.taken) (sym (take_all (length text) text (omega arith))) all)
-
-  pub all_done : (x : VaultState) → Appends s.taken t.taken text → x.files ≡ option_map (with_stored entry) w.files → Ends Done c (call v x s t)
-  all_done x all kept = follows v.files MadeOf (λ files. PrintedAll (call v x s t) files c × StoredAll (call v x s t) files c) (λ files told made.
-      let printed_all : Appends s.taken t.taken (printed c made.0) = subst (Appends s.taken t.taken) made.2 all in
-      let stored_all : x.files ≡ Some (with_stored (stored c made.0) files) =
-      kept ∙ ap (option_map (with_stored entry)) (m.after.files ∙ told) ∙ ap (λ (e : Option (List ℕ × List ℕ)). Some (with_stored e files)) made.3 in
-      ((made.0, made.1, printed_all), (made.0, made.1, stored_all))) m.gives
-
-  pub print_refused : (status : Status) → NotPrinted status s t text → Ends status c (call v w s t)
-  print_refused NoMemory part = (inr (prefix_printed w part), m.after.files)
-  print_refused SinkFault part = (part.0, prefix_printed w part.1, m.after.files)
-  print_refused Done part = absurd part
-  print_refused BadWords part = absurd part
-  print_refused (ReadFault word) part = absurd part
-  print_refused (TooLong word) part = absurd part
-  print_refused (Refused word place) part = absurd part
-  print_refused StoreFault part = absurd part
-
-  pub store_refused : (x : VaultState) (status : Status) → Appends s.taken t.taken text → NotStored status w x entry → Ends status c (call v x s t)
-  store_refused x NoMemory all files = (inr (prefix_printed x (whole_prefix all)), files ∙ m.after.files)
-  store_refused x StoreFault all not = (rose_before v.store_faults w.store_faults x.store_faults m.after.store_later not.0, sym m.name ∙ not.1, text_printed x all, not.2 ∙ m.after.files)
-  store_refused x Done all not = absurd not
-  store_refused x BadWords all not = absurd not
-  store_refused x (ReadFault word) all not = absurd not
-  store_refused x (TooLong word) all not = absurd not
-  store_refused x (Refused word place) all not = absurd not
-  store_refused x SinkFault all not = absurd not
-
 -- a command whose files were not all read
 pub read_early : (c : Command) (status : Status) (v w : VaultState) → NotRead status (inputs c) v w → w.files ≡ v.files → EndsEarly status c v w
 read_early c NoMemory v w not files s = (inl refl, files)
