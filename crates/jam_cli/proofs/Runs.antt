@@ -1,18 +1,17 @@
 -- How a call of a command ends, by what its parts did.
-use Rattle.std.proofs.Common.{◌≡◌, ◌≢◌, ◌<◌, ◌≤◌, Bool, true, false, ℕ, List, [], ◌∷◌, length, ap, sym, ◌∙◌, subst, refl, inl, inr, arith, Option, Some, None, option_map}
-use Rattle.std.proofs.lemmas.List.{take_all}
+use Rattle.std.proofs.Common.{◌≡◌, ◌≢◌, ◌<◌, ◌≤◌, Bool, true, false, ℕ, List, [], ◌∷◌, length, sym, ◌∙◌, subst, refl, inl, inr, arith, Option, Some, None}
 use Rattle.std.specs.Prelude.{IfSome}
 use Rattle.jam_outside.specs.Files.{Files, content}
-use Rattle.jam_outside.specs.Causes.{VaultState, SinkState, Rose, Appends, AppendsPrefix}
+use Rattle.jam_outside.specs.Causes.{VaultState, Rose}
 use Rattle.blob_decode.specs.Program.{Program}
 use Rattle.jam_accounts.specs.Accounts.{State}
 use Rattle.batch_file.specs.declared.batch.Batch.{Batch}
 use Rattle.jam_cli.specs.declared.status.Status.{Status}
 use Rattle.jam_cli.specs.declared.status.Status.TheVariants.{Done, NoMemory, BadWords, ReadFault, TooLong, Refused, SinkFault, StoreFault}
 use Rattle.jam_cli.specs.Command.{Command, run, hash, accumulate, Kind, raw_program, services_state, batch_of_work, Input, inputs, Values, ValueOf, printed, stored, SpellsValue}
-use Rattle.jam_cli.specs.Ending.{limit, Ends, call, Gives, AllRead, FirstNamed, FirstTooLong, FirstRefused, with_stored, PrintedAll, PrintedPrefix, StoredAll}
+use Rattle.jam_cli.specs.Ending.{limit, Gives, AllRead, FirstNamed, FirstTooLong, FirstRefused}
 use Rattle.jam_cli.proofs.Endings.{at_told}
-use Rattle.jam_cli.specs.Parts.{NotRead, NotSpelled, EndsEarly, AfterInputs, Makes, NotPrinted, NotStored}
+use Rattle.jam_cli.specs.Parts.{NotRead, NotSpelled, EndsEarly, AfterInputs}
 
 -- where a fact holds of what is told, so does what follows from it
 pub follows : {A : Type 0} (o : Option A) (P Q : A → Type 0) → ((x : A) → o ≡ Some x → P x → Q x) → IfSome o P → IfSome o Q
