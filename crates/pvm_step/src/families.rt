@@ -1,12 +1,13 @@
-// Instructions that many opcodes have in common.
-ghost use Rattle.std.specs.Prelude.{◌≡◌, ◌<◌, ◌≤◌, ◌+◌, ◌==◌, not, IsTrue, true, None, length, IfOk, IsOk, OnErr};
+// Instructions that many opcodes have in common. The operations are inlined in the loop of a run; with the branches
+// too, that function would pass the size up to which the compiler heeds the hint. What is called has no place there
+// that is cleared at each turn.
+ghost use Rattle.std.specs.Prelude.{◌≡◌, ◌<◌, ◌≤◌, IsTrue, true, length, IfOk, IsOk, OnErr};
 ghost use Rattle.pvm_isa.specs.Arguments.{arguments};
-ghost use Rattle.pvm_isa.specs.declared.form.Form.TheVariants.{F2, F3, F4, F5, F6, F7, F8, F9, F10, F11, F12, F13};
+ghost use Rattle.pvm_isa.specs.declared.form.Form.TheVariants.{F4, F6, F7, F8, F9, F10, F11, F13};
 ghost use Rattle.blob_decode.specs.Program as blob;
 ghost use Rattle.paged_memory.specs.PageMap.{is_width};
 ghost use Rattle.pvm_alu.specs.Alu as alu;
-ghost use Rattle.pvm_step.specs.declared.exit.Exit.TheVariants.{Host};
-ghost use Rattle.pvm_step.specs.Effect.{Nothing, Exits, Gives, Jumps, JumpsThrough, GivesAndJumps, GivesAndJumpsThrough, Moves, Grows, gives_of_a, gives_of_a_b, gives_of_b_x, loads_at_x, loads_at_b_x, stores_y_at_x, stores_a_at_x, stores_y_at_a_x, stores_a_at_b_x, branches_on_a_x, branches_on_a_b, after, address, value_in};
+ghost use Rattle.pvm_step.specs.Effect.{gives_of_a, gives_of_a_b, gives_of_b_x, loads_at_x, loads_at_b_x, stores_y_at_x, stores_a_at_x, stores_y_at_a_x, stores_a_at_b_x, branches_on_a_x, branches_on_a_b, after};
 ghost use Rattle.pvm_step.specs.Machine.{state_of, after_of, exit_after, is_done};
 
 use crate::address::{address, address_from};
@@ -15,10 +16,9 @@ use crate::machine::Machine;
 use crate::went::Went;
 use pvm_alu::{binary, test, unary};
 use pvm_isa::{
-    Op, one_immediate, one_offset, register_and_immediate, register_and_two_immediates,
-    register_and_wide_immediate, register_immediate_and_offset, three_registers, two_immediates,
-    two_registers, two_registers_and_immediate, two_registers_and_offset,
-    two_registers_and_two_immediates,
+    Op, register_and_immediate, register_and_two_immediates, register_immediate_and_offset,
+    three_registers, two_immediates, two_registers, two_registers_and_immediate,
+    two_registers_and_offset,
 };
 use std::alloc::AllocError;
 
@@ -42,7 +42,7 @@ impl Machine {
     }
 
     /// An operation with the value of a register and an immediate.
-    #[inline(never)]
+    #[inline(always)]
     pub(crate) fn give_of_b_x(&mut self, op: Op, skip: u8) -> Went
         requires operation { IsTrue (alu.is_binary op) }
         requires within { self.old.pc < length self.old.program.code }

@@ -1,5 +1,5 @@
 // The kinds of effects, over values that are read already.
-ghost use Rattle.std.specs.Prelude.{◌≡◌, ◌<◌, ◌≤◌, ◌+◌, ◌%◌, ◌^◌, IsTrue, true, None, set, IfOk, OnOk, OnErr};
+ghost use Rattle.std.specs.Prelude.{◌≡◌, ◌<◌, ◌≤◌, ◌+◌, ◌^◌, IsTrue, true, None, set, IfOk, OnOk, OnErr};
 ghost use Rattle.blob_decode.specs.Program as blob;
 ghost use Rattle.blob_decode.specs.Program.{next, jump_to, jump_through};
 ghost use Rattle.paged_memory.specs.PageMap.{is_width};

@@ -1,5 +1,5 @@
 // A machine that runs a program.
-ghost use Rattle.std.specs.Prelude.{◌≡◌, ◌<◌, ◌≤◌, ℕ, None, length, replicate, IfOk, OnErr};
+ghost use Rattle.std.specs.Prelude.{◌≡◌, ◌≤◌, ℕ, None, length, replicate, IfOk, OnErr};
 ghost use Rattle.std.specs.FinMap as fin;
 ghost use Rattle.pvm_isa.specs.declared.op.Op.TheVariants.{Ecalli};
 ghost use Rattle.blob_decode.specs.Program.{op_at, next};

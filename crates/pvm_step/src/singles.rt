@@ -1,23 +1,19 @@
 // Instructions of one opcode each.
-ghost use Rattle.std.specs.Prelude.{◌≡◌, ◌<◌, ◌≤◌, ◌+◌, ◌==◌, not, IsTrue, true, None, length, IfOk, IsOk, OnErr};
+ghost use Rattle.std.specs.Prelude.{◌≡◌, ◌<◌, ◌≤◌, ◌+◌, ◌==◌, not, true, length, IfOk, IsOk, OnErr};
 ghost use Rattle.pvm_isa.specs.Arguments.{arguments};
-ghost use Rattle.pvm_isa.specs.declared.form.Form.TheVariants.{F2, F3, F4, F5, F6, F7, F8, F9, F10, F11, F12, F13};
+ghost use Rattle.pvm_isa.specs.declared.form.Form.TheVariants.{F2, F3, F5, F6, F8, F9, F10, F12, F13};
 ghost use Rattle.blob_decode.specs.Program as blob;
-ghost use Rattle.paged_memory.specs.PageMap.{is_width};
-ghost use Rattle.pvm_alu.specs.Alu as alu;
 ghost use Rattle.pvm_step.specs.declared.exit.Exit.TheVariants.{Host};
-ghost use Rattle.pvm_step.specs.Effect.{Nothing, Exits, Gives, Jumps, JumpsThrough, GivesAndJumps, GivesAndJumpsThrough, Moves, Grows, gives_of_a, gives_of_a_b, gives_of_b_x, loads_at_x, loads_at_b_x, stores_y_at_x, stores_a_at_x, stores_y_at_a_x, stores_a_at_b_x, branches_on_a_x, branches_on_a_b, after, address, value_in};
+ghost use Rattle.pvm_step.specs.Effect.{Nothing, Exits, Gives, Jumps, JumpsThrough, GivesAndJumps, GivesAndJumpsThrough, Moves, Grows, after, address, value_in};
 ghost use Rattle.pvm_step.specs.Machine.{state_of, after_of, exit_after, is_done};
 
-use crate::address::{address, address_from};
+use crate::address::address_from;
 use crate::exit::Exit;
 use crate::machine::Machine;
 use crate::went::Went;
-use pvm_alu::{binary, test, unary};
 use pvm_isa::{
-    Op, one_immediate, one_offset, register_and_immediate, register_and_two_immediates,
-    register_and_wide_immediate, register_immediate_and_offset, three_registers, two_immediates,
-    two_registers, two_registers_and_immediate, two_registers_and_offset,
+    one_immediate, one_offset, register_and_immediate, register_and_wide_immediate,
+    register_immediate_and_offset, three_registers, two_registers, two_registers_and_immediate,
     two_registers_and_two_immediates,
 };
 use std::alloc::AllocError;
