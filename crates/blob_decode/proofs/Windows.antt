@@ -1,5 +1,5 @@
 -- The mask's bits in four of its bytes.
-use Rattle.std.proofs.Common.{◌≡◌, ℕ, zero, suc, ◌+◌, ◌-◌, ◌*◌, ◌/◌, ◌%◌, ◌^◌, ◌<◌, ◌≤◌, true, false, Bool, subst, lit<, List, length, take, drop, get_or, arith, refl, ap, sym, ◌∙◌, inl, inr, length-drop}
+use Rattle.std.proofs.Common.{◌≡◌, ℕ, zero, suc, ◌+◌, ◌-◌, ◌*◌, ◌/◌, ◌%◌, ◌^◌, ◌<◌, ◌≤◌, true, false, Bool, subst, lit<, List, length, take, drop, get_or, arith, refl, ap, sym, ◌∙◌, inl, inr, length-drop, min}
 use Rattle.std.specs.Prelude.{◌==◌, bit_or}
 use Rattle.std.specs.Int.{w32, bit_at, trailing_zeros, leading_zeros, ◌∣◌}
 use Rattle.std.proofs.Math.Nat.{div-div-eq-div-mul, pow-succ', pow-le-pow_right, one-le-pow, div-eq_of_lt, div-eq_of_lt-le, dvd-mul_right, mod-mod_of_dvd}
@@ -14,7 +14,7 @@ use Rattle.jam_codec.proofs.Bits.{binary_digits-of_bytes}
 use Rattle.blob_decode.specs.Program.{mask_bit, gap}
 use Rattle.blob_decode.specs.Kept.{program_of, Keeps, FirstSet, LastSet}
 use Rattle.blob_decode.proofs.Starts.{gap-is}
-use Rattle.blob_decode.proofs.KeptLaws.{mask_bit-kept}
+use Rattle.blob_decode.proofs.KeptLaws.{mask_bit-kept, mask_bit-past}
 
 -- the first set bit of the lowest 24, by the zeros below it once the bit above them is set
 pub FirstSet-trailing_zeros : (bits : ℕ) → bits < 2 ^ 32 → FirstSet bits (trailing_zeros w32 (bit_or bits (2 ^ 24)))
@@ -109,6 +109,31 @@ module _ (count width : ℕ) (table code mask : List ℕ) (keeps : Keeps count w
       ∙ sym (at (j - from) (omega (arith, set.most)))
       ∙ ap (λ (k : ℕ). k == 1) (set.zeros (j - from) (omega arith)))
       (λ less. sym (at n less) ∙ ap (λ (k : ℕ). k == 1) (set.one less))
+
+  -- near the end of the code the last four bytes of the mask do, and the gap ends where the code does
+  pub gap-end : (from n : ℕ) → 4 ≤ length mask → 8 * (length mask - 4) ≤ from → from < length code
+      → FirstSet (little_number (take 4 (drop (length mask - 4) mask)) / 2 ^ (from - 8 * (length mask - 4))) n → gap (program_of count width table code mask) from 24 ≡ min n (length code - from)
+  gap-end from n four late within set =
+      let first : ℕ = length mask - 4 in
+      let shift : ℕ = from - 8 * first in
+      let number : ℕ = little_number (take 4 (drop first mask)) in
+      let at : (j : ℕ) → from + j < length code → (number / 2 ^ shift / 2 ^ j % 2 == 1) ≡ mask_bit (program_of count width table code mask) (from + j) = λ j inside.
+      let place : 8 * first + (shift + j) ≡ from + j = omega arith in
+      ap (λ (k : ℕ). k % 2 == 1) (shr-shr number shift j)
+      ∙ window-bit first (shift + j) (omega arith) (omega (arith, keeps.bits)) (omega arith)
+      ∙ ap (mask_bit (program_of count width table code mask)) place in
+      gap-is (program_of count width table code mask) from 24 (min n (length code - from)) (omega (arith, set.most))
+      (λ j after before.
+      let place : from + (j - from) ≡ j = omega arith in
+      ap (mask_bit (program_of count width table code mask)) (sym place)
+      ∙ sym (at (j - from) (omega arith))
+      ∙ ap (λ (k : ℕ). k == 1) (set.zeros (j - from) (omega arith)))
+      (λ less. elim (cases_lt n (length code - from)) [
+        | inl inside ↦
+            ap (λ (k : ℕ). mask_bit (program_of count width table code mask) (from + k)) (omega arith)
+            ∙ sym (at n (omega arith)) ∙ ap (λ (k : ℕ). k == 1) (set.one (omega arith))
+        | inr outside ↦ mask_bit-past count width table code mask (from + min n (length code - from)) (omega arith)
+      ])
 
   -- the last set bit of those of the 25 places before tells the nearest instruction before, if there is one
   module _ (place : ℕ) (far : 25 ≤ place) (within : place < length code) where

@@ -1,5 +1,5 @@
 // A program in memory.
-ghost use Rattle.std.specs.Prelude.{◌≡◌, ◌<◌, ◌≤◌, ◌+◌, ◌^◌, ℕ, true, false, None, if◌then◌else◌, IfSome, IfNone, MatchOption, IfOk, IfErr, IsErrOf, length, take, drop, slice_get};
+ghost use Rattle.std.specs.Prelude.{◌≡◌, ◌<◌, ◌≤◌, ◌+◌, ◌/◌, ◌^◌, ℕ, true, false, None, if◌then◌else◌, IfSome, IfNone, MatchOption, IfOk, IfErr, IsErrOf, length, take, drop, slice_get};
 ghost use Rattle.jam_codec.specs.Spelling.{little_number};
 ghost use Rattle.jam_codec.specs.Format.{Spells};
 ghost use Rattle.blob_decode.specs.declared.program.ProgramRefusal.TheVariants.{NoMemory, NotProgram};
@@ -200,6 +200,26 @@ impl Program {
         most
     }
 
+    // The gap of 24 places that the code may end within. The last four bytes of the mask hold them, where it has
+    // so many.
+    #[inline]
+    fn gap_near_the_end(&self, from: u64) -> u8
+        requires within { from ≤ length self.now.code }
+        requires near { (length self.now.code + 7) / 8 ≤ from / 8 + 4 }
+        ensures { result ≡ gap self.now from 24 }
+    {
+        let size = self.code.len() as u64;
+        if from == size {
+            return 0;
+        }
+        if self.mask.len() < 4 {
+            return self.gap(from, 24);
+        }
+        let first = self.mask.len() - 4;
+        let zeros = zeros_before(window(&self.mask, first) >> (from - 8 * first as u64));
+        zeros.min((size - from).min(24) as u8)
+    }
+
     /// How many bytes of arguments the instruction at the place has: those up to the next one, and
     /// at most 24.
     #[inline]
@@ -216,7 +236,7 @@ impl Program {
             // Four bytes of the mask hold the bits of all 24 places.
             return zeros_before(window(&self.mask, first) >> (from % 8));
         }
-        self.gap(from, 24)
+        self.gap_near_the_end(from)
     }
 
     // The nearest place before this one at which an instruction begins, at most so many before.

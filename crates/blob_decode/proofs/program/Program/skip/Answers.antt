@@ -23,4 +23,4 @@ returns-then-first-len-clause-value c =
     ∙ ap (λ (p : Program). gap p (c.args.pc + 1) 24) c.self.view_is
 
 pub returns-clause-most : goal.returns-clause-most
-returns-clause-most c = omega (arith, gap-most c.args.self.now (c.args.pc + 1) 24, c.gap.ensures)
+returns-clause-most c = omega (arith, gap-most c.args.self.now (c.args.pc + 1) 24, c.gap_near_the_end.ensures)
