@@ -3,3 +3,4 @@ pub mod KeptLaws
 pub mod BlobLaws
 pub mod Spelled
 pub mod Windows
+pub mod Marks

@@ -1,5 +1,5 @@
 -- The mask's bits in four of its bytes.
-use Rattle.std.proofs.Common.{◌≡◌, ℕ, zero, suc, ◌+◌, ◌-◌, ◌*◌, ◌/◌, ◌%◌, ◌^◌, ◌<◌, ◌≤◌, true, false, Bool, subst, lit<, List, length, take, drop, get_or, arith, refl, ap, sym, ◌∙◌, inl, inr, length-drop, min}
+use Rattle.std.proofs.Common.{◌≡◌, ℕ, zero, suc, ◌+◌, ◌-◌, ◌*◌, ◌/◌, ◌%◌, ◌^◌, ◌<◌, ◌≤◌, true, false, Bool, subst, lit<, List, length, take, drop, get_or, arith, refl, ap, sym, ◌∙◌, inl, inr, length-drop}
 use Rattle.std.specs.Prelude.{◌==◌, bit_or}
 use Rattle.std.specs.Int.{w32, bit_at, trailing_zeros, leading_zeros, ◌∣◌}
 use Rattle.std.proofs.Math.Nat.{div-div-eq-div-mul, pow-succ', pow-le-pow_right, one-le-pow, div-eq_of_lt, div-eq_of_lt-le, dvd-mul_right, mod-mod_of_dvd}
@@ -11,8 +11,8 @@ use Rattle.jam_codec.specs.Spelling.{little_number, binary_digits}
 use Rattle.jam_codec.specs.Laws.{AreBytes}
 use Rattle.jam_codec.proofs.Numbers.{AreBytes-take, AreBytes-drop}
 use Rattle.jam_codec.proofs.Bits.{binary_digits-of_bytes}
-use Rattle.blob_decode.specs.Program.{mask_bit, gap}
-use Rattle.blob_decode.specs.Kept.{program_of, Keeps, FirstSet, LastSet}
+use Rattle.blob_decode.specs.Program.{mask_bit, skip}
+use Rattle.blob_decode.specs.Kept.{program_of, Keeps, AreMarks, FirstSet, LastSet}
 use Rattle.blob_decode.proofs.Starts.{gap-is}
 use Rattle.blob_decode.proofs.KeptLaws.{mask_bit-kept, mask_bit-past}
 
@@ -77,63 +77,82 @@ digit-at (suc n) (suc i) x d h =
     let next : x / 2 / 2 ^ i ≡ x / 2 ^ suc i = div-div-eq-div-mul x 2 (2 ^ i) ∙ ap (λ (k : ℕ). x / k) (sym (pow-succ' 2 i)) in
     rw (digit-at n i (x / 2) d less, next) refl
 
+-- a bit of four bytes
+four-bit : (bytes : List ℕ) (first i : ℕ) → AreBytes bytes → first + 4 ≤ length bytes → i < 32
+    → (little_number (take 4 (drop first bytes)) / 2 ^ i % 2 == 1) ≡ (get_or bytes ((8 * first + i) / 8) 0 / 2 ^ ((8 * first + i) % 8) % 2 == 1)
+four-bit bytes first i are long less =
+    let four : List ℕ = take 4 (drop first bytes) in
+    let size : length (take 4 (drop first bytes)) ≡ 4 = length-take-le 4 (drop first bytes) (omega (arith, length-drop first bytes)) in
+    let small : AreBytes (take 4 (drop first bytes)) = AreBytes-take 4 (drop first bytes) (AreBytes-drop first bytes are) in
+    let byte : get_or (take 4 (drop first bytes)) (i / 8) 0 ≡ get_or bytes ((8 * first + i) / 8) 0 =
+    get_or-take 4 (drop first bytes) (i / 8) 0 (omega arith) ∙ get_or-drop first bytes (i / 8) 0 ∙ ap (λ (k : ℕ). get_or bytes k 0) (omega arith) in
+    let bit : i % 8 ≡ (8 * first + i) % 8 = omega arith in
+    sym (digit-at 32 i (little_number (take 4 (drop first bytes))) true less)
+    ∙ binary_digits-of_bytes (take 4 (drop first bytes)) 32 i true small (omega (arith, size)) less
+    ∙ ap (λ (b : ℕ). b / 2 ^ (i % 8) % 2 == 1) byte
+    ∙ ap (λ (k : ℕ). get_or bytes ((8 * first + i) / 8) 0 / 2 ^ k % 2 == 1) bit
+
 module _ (count width : ℕ) (table code mask : List ℕ) (keeps : Keeps count width table code mask) where
   -- a bit of four bytes of the mask
   window-bit : (first i : ℕ) → first + 4 ≤ length mask → i < 32 → 8 * first + i < length code → (little_number (take 4 (drop first mask)) / 2 ^ i % 2 == 1) ≡ mask_bit (program_of count width table code mask) (8 * first + i)
   window-bit first i long less within =
-      let four : List ℕ = take 4 (drop first mask) in
-      let size : length (take 4 (drop first mask)) ≡ 4 = length-take-le 4 (drop first mask) (omega (arith, length-drop first mask)) in
-      let bytes : AreBytes (take 4 (drop first mask)) = AreBytes-take 4 (drop first mask) (AreBytes-drop first mask keeps.bytes) in
-      let byte : get_or (take 4 (drop first mask)) (i / 8) 0 ≡ get_or mask ((8 * first + i) / 8) 0 =
-      get_or-take 4 (drop first mask) (i / 8) 0 (omega arith) ∙ get_or-drop first mask (i / 8) 0 ∙ ap (λ (k : ℕ). get_or mask k 0) (omega arith) in
-      let bit : i % 8 ≡ (8 * first + i) % 8 = omega arith in
-      sym (digit-at 32 i (little_number (take 4 (drop first mask))) true less)
-      ∙ binary_digits-of_bytes (take 4 (drop first mask)) 32 i true bytes (omega (arith, size)) less
-      ∙ ap (λ (b : ℕ). b / 2 ^ (i % 8) % 2 == 1) byte
-      ∙ ap (λ (k : ℕ). get_or mask ((8 * first + i) / 8) 0 / 2 ^ k % 2 == 1) bit
-      ∙ sym (mask_bit-kept count width table code mask (8 * first + i) keeps within)
+      four-bit mask first i keeps.bytes long less ∙ sym (mask_bit-kept count width table code mask (8 * first + i) keeps within)
 
-  -- where four bytes of the mask hold the bits of 24 places, the first set one tells the gap
-  pub gap-window : (from n : ℕ) → from / 8 + 4 < length mask → FirstSet (little_number (take 4 (drop (from / 8) mask)) / 2 ^ (from % 8)) n → gap (program_of count width table code mask) from 24 ≡ n
-  gap-window from n long set =
-      let number : ℕ = little_number (take 4 (drop (from / 8) mask)) in
-      let at : (j : ℕ) → j < 24 → (number / 2 ^ (from % 8) / 2 ^ j % 2 == 1) ≡ mask_bit (program_of count width table code mask) (from + j) = λ j less.
-      let place : 8 * (from / 8) + (from % 8 + j) ≡ from + j = omega arith in
-      ap (λ (k : ℕ). k % 2 == 1) (shr-shr number (from % 8) j)
-      ∙ window-bit (from / 8) (from % 8 + j) (omega arith) (omega arith) (omega (arith, keeps.bits))
-      ∙ ap (mask_bit (program_of count width table code mask)) place in
-      gap-is (program_of count width table code mask) from 24 n set.most
-      (λ j after before.
-      let place : from + (j - from) ≡ j = omega arith in
-      ap (mask_bit (program_of count width table code mask)) (sym place)
-      ∙ sym (at (j - from) (omega (arith, set.most)))
-      ∙ ap (λ (k : ℕ). k == 1) (set.zeros (j - from) (omega arith)))
-      (λ less. sym (at n less) ∙ ap (λ (k : ℕ). k == 1) (set.one less))
+  -- a bit of four bytes of the marks, up to the one after the code
+  module _ (marks : List ℕ) (are : AreMarks (length code) mask marks) where
+    mark-bit : (first i : ℕ) → first + 4 ≤ length marks → i < 32 → 8 * first + i ≤ length code → (little_number (take 4 (drop first marks)) / 2 ^ i % 2 == 1) ≡ mask_bit (program_of count width table code mask) (8 * first + i)
+    mark-bit first i long less within = elim (cases_lt (8 * first + i) (length code)) [
+      | inl inside ↦
+          four-bit marks first i are.bytes long less
+          ∙ ap (λ (k : ℕ). k == 1) (are.same (8 * first + i) inside)
+          ∙ sym (mask_bit-kept count width table code mask (8 * first + i) keeps inside)
+      | inr outside ↦
+          let last : 8 * first + i ≡ length code = omega (arith, within, outside) in
+          four-bit marks first i are.bytes long less
+          ∙ ap (λ (k : ℕ). get_or marks (k / 8) 0 / 2 ^ (k % 8) % 2 == 1) last
+          ∙ ap (λ (k : ℕ). k == 1) are.end
+          ∙ sym (mask_bit-past count width table code mask (8 * first + i) outside)
+    ]
 
-  -- near the end of the code the last four bytes of the mask do, and the gap ends where the code does
-  pub gap-end : (from n : ℕ) → 4 ≤ length mask → 8 * (length mask - 4) ≤ from → from < length code
-      → FirstSet (little_number (take 4 (drop (length mask - 4) mask)) / 2 ^ (from - 8 * (length mask - 4))) n → gap (program_of count width table code mask) from 24 ≡ min n (length code - from)
-  gap-end from n four late within set =
-      let first : ℕ = length mask - 4 in
-      let shift : ℕ = from - 8 * first in
-      let number : ℕ = little_number (take 4 (drop first mask)) in
-      let at : (j : ℕ) → from + j < length code → (number / 2 ^ shift / 2 ^ j % 2 == 1) ≡ mask_bit (program_of count width table code mask) (from + j) = λ j inside.
-      let place : 8 * first + (shift + j) ≡ from + j = omega arith in
-      ap (λ (k : ℕ). k % 2 == 1) (shr-shr number shift j)
-      ∙ window-bit first (shift + j) (omega arith) (omega (arith, keeps.bits)) (omega arith)
-      ∙ ap (mask_bit (program_of count width table code mask)) place in
-      gap-is (program_of count width table code mask) from 24 (min n (length code - from)) (omega (arith, set.most))
-      (λ j after before.
-      let place : from + (j - from) ≡ j = omega arith in
-      ap (mask_bit (program_of count width table code mask)) (sym place)
-      ∙ sym (at (j - from) (omega arith))
-      ∙ ap (λ (k : ℕ). k == 1) (set.zeros (j - from) (omega arith)))
-      (λ less. elim (cases_lt n (length code - from)) [
-        | inl inside ↦
-            ap (λ (k : ℕ). mask_bit (program_of count width table code mask) (from + k)) (omega arith)
-            ∙ sym (at n (omega arith)) ∙ ap (λ (k : ℕ). k == 1) (set.one (omega arith))
-        | inr outside ↦ mask_bit-past count width table code mask (from + min n (length code - from)) (omega arith)
-      ])
+    -- the marks from a place on: its own, and those of the places after it
+    module _ (place bits : ℕ) (within : place < length code) (is : bits ≡ little_number (take 4 (drop (place / 8) marks)) / 2 ^ (place % 8)) where
+      mark-at : (j : ℕ) → j ≤ 24 → place + j ≤ length code → (bits / 2 ^ j % 2 == 1) ≡ mask_bit (program_of count width table code mask) (place + j)
+      mark-at j few inside =
+          let number : ℕ = little_number (take 4 (drop (place / 8) marks)) in
+          let here : 8 * (place / 8) + (place % 8 + j) ≡ place + j = omega arith in
+          ap (λ (k : ℕ). k / 2 ^ j % 2 == 1) is
+          ∙ ap (λ (k : ℕ). k % 2 == 1) (shr-shr number (place % 8) j)
+          ∙ mark-bit (place / 8) (place % 8 + j) (omega (arith, keeps.bits, are.long)) (omega arith) (omega (arith, inside))
+          ∙ ap (mask_bit (program_of count width table code mask)) here
+
+      pub own-mark : (bits % 2 == 1) ≡ mask_bit (program_of count width table code mask) place
+      own-mark =
+          let whole : bits / 1 ≡ bits = omega arith in
+          let here : place + 0 ≡ place = omega arith in
+          ap (λ (k : ℕ). k % 2 == 1) (sym whole) ∙ mark-at 0 (omega arith) (omega arith) ∙ ap (mask_bit (program_of count width table code mask)) here
+
+      pub next-mark : (n : ℕ) → FirstSet (bits / 2) n → skip (program_of count width table code mask) place ≡ n
+      next-mark n set =
+          let at : (j : ℕ) → j < 24 → place + 1 + j ≤ length code → (bits / 2 / 2 ^ j % 2 == 1) ≡ mask_bit (program_of count width table code mask) (place + 1 + j) = λ j few inside.
+          let here : place + (1 + j) ≡ place + 1 + j = omega arith in
+          ap (λ (k : ℕ). k % 2 == 1) (shr-shr bits 1 j) ∙ mark-at (1 + j) (omega arith) (omega arith) ∙ ap (mask_bit (program_of count width table code mask)) here in
+          let enough : place + 1 + n ≤ length code = elim (cases_lt (length code) (place + 1 + n)) [
+            | inl less ↦
+                let k : ℕ = length code - (place + 1) in
+                let last : (0 == 1) ≡ true =
+                ap (λ (b : ℕ). b == 1) (sym (set.zeros k (omega arith)))
+                ∙ at k (omega (arith, set.most)) (omega arith)
+                ∙ mask_bit-past count width table code mask (place + 1 + k) (omega arith) in
+                absurd (cc last)
+            | inr more ↦ more
+          ] in
+          gap-is (program_of count width table code mask) (place + 1) 24 n set.most
+          (λ j after before.
+          let here : place + 1 + (j - (place + 1)) ≡ j = omega arith in
+          ap (mask_bit (program_of count width table code mask)) (sym here)
+          ∙ sym (at (j - (place + 1)) (omega (arith, set.most)) (omega (arith, enough)))
+          ∙ ap (λ (k : ℕ). k == 1) (set.zeros (j - (place + 1)) (omega arith)))
+          (λ less. sym (at n less enough) ∙ ap (λ (k : ℕ). k == 1) (set.one less))
 
   -- the last set bit of those of the 25 places before tells the nearest instruction before, if there is one
   module _ (place : ℕ) (far : 25 ≤ place) (within : place < length code) where

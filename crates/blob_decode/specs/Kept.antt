@@ -1,5 +1,5 @@
 -- What is kept of a program blob, and the program that it stands for.
-use Rattle.std.specs.Prelude.{◌≡◌, ℕ, ◌*◌, ◌/◌, ◌%◌, ◌^◌, ◌<◌, ◌≤◌, List, length}
+use Rattle.std.specs.Prelude.{◌≡◌, ℕ, ◌+◌, ◌*◌, ◌/◌, ◌%◌, ◌^◌, ◌<◌, ◌≤◌, List, length, get_or}
 use Rattle.jam_codec.specs.Spelling.{little_number, numbers, binary_digits, bytes_for}
 use Rattle.jam_codec.specs.Laws.{AreBytes}
 use Rattle.blob_decode.specs.Program.{Program}
@@ -21,6 +21,13 @@ pub record Keeps (count width : ℕ) (table code mask : List ℕ) : Type 0 where
   pub bits : length mask ≡ bytes_for (length code)
   pub spare : little_number mask < 2 ^ length code
   pub bytes : AreBytes mask
+
+-- the bits of the mask of so many places, then one that is set, in bytes that go on for a window of four at each place
+pub record AreMarks (size : ℕ) (mask marks : List ℕ) : Type 0 where
+  pub long : length marks ≡ length mask + 4
+  pub bytes : AreBytes marks
+  pub same : (i : ℕ) → i < size → get_or marks (i / 8) 0 / 2 ^ (i % 8) % 2 ≡ get_or mask (i / 8) 0 / 2 ^ (i % 8) % 2
+  pub end : get_or marks (size / 8) 0 / 2 ^ (size % 8) % 2 ≡ 1
 
 -- n of the lowest 24 bits of a number stand before the first that is set
 pub record FirstSet (bits n : ℕ) : Type 0 where

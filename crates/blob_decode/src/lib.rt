@@ -6,7 +6,7 @@ mod parts;
 mod program;
 
 pub use laws::{blob_laws, start_law};
-pub use program::{Program, ProgramRefusal};
+pub use program::{Fetched, Program, ProgramRefusal};
 
 #[cfg(test)]
 mod tests;

@@ -1,16 +1,16 @@
 // A program in memory.
-ghost use Rattle.std.specs.Prelude.{◌≡◌, ◌<◌, ◌≤◌, ◌+◌, ◌/◌, ◌^◌, ℕ, true, false, None, if◌then◌else◌, IfSome, IfNone, MatchOption, IfOk, IfErr, IsErrOf, length, take, drop, slice_get};
-ghost use Rattle.jam_codec.specs.Spelling.{little_number};
+ghost use Rattle.std.specs.Prelude.{◌≡◌, ◌<◌, ◌≤◌, ◌+◌, ◌/◌, ◌%◌, ◌^◌, ◌==◌, ℕ, true, false, None, if◌then◌else◌, IfSome, IfNone, MatchOption, IfOk, IfErr, IsErrOf, length, take, drop, slice_get};
+ghost use Rattle.jam_codec.specs.Spelling.{little_number, bytes_for};
 ghost use Rattle.jam_codec.specs.Format.{Spells};
 ghost use Rattle.blob_decode.specs.declared.program.ProgramRefusal.TheVariants.{NoMemory, NotProgram};
 ghost use Rattle.pvm_isa.specs.Opcodes.{op_numbered};
 ghost use Rattle.blob_decode.specs.Refusal.{IsPlaced};
-ghost use Rattle.blob_decode.specs.Kept.{FirstSet, LastSet};
+ghost use Rattle.blob_decode.specs.Kept.{FirstSet, LastSet, AreMarks};
 ghost use Rattle.blob_decode.specs.Program.{program_blob, mask_bit, code_byte, op_begins, op_at, gap, skip, is_start, ends_block, ends_before, some_below};
 
 use crate::parts::{parts_of, push_lists};
 use jam_codec::{Malformed, number_of, push_fixed, push_natural};
-use pvm_isa::{Op, is_terminator, op_of};
+use pvm_isa::{Op, is_terminator, op_of, op_or_trap};
 use std::alloc::{AllocError, Global};
 use std::marker::Model;
 use thiserror::Error;
@@ -49,20 +49,32 @@ pub struct Program {
     table: Vec<u8>,
     code: Vec<u8>,
     mask: Vec<u8>,
+    // The mask with the bit after its last one set, and more bytes, so that a window begins at each place.
+    marks: Vec<u8>,
+}
+
+/// What stands at a place of the code.
+#[derive(Clone, Copy, Debug, PartialEq, Eq)]
+pub struct Fetched {
+    /// The opcode of the instruction there; `Trap` where none with a defined opcode begins.
+    pub op: Op,
+    /// How many bytes of arguments it has, at most 24.
+    pub skip: u8,
 }
 
 impl Model for Program {
     ghost use Rattle.blob_decode.specs.Program.{Program};
-    ghost use Rattle.blob_decode.specs.Kept.{program_of, Keeps};
+    ghost use Rattle.std.specs.Prelude.{length};
+    ghost use Rattle.blob_decode.specs.Kept.{program_of, Keeps, AreMarks};
 
     ghost Value = { Program };
 
     ghost view = { λ p. program_of p.count p.width p.table.items p.code.items p.mask.items };
 
-    ghost invariant = { λ p. Keeps p.count p.width p.table.items p.code.items p.mask.items };
+    ghost invariant = { λ p. Keeps p.count p.width p.table.items p.code.items p.mask.items × AreMarks (length p.code.items) p.mask.items p.marks.items };
 }
 
-// Four bytes of the mask as a number.
+// Four bytes of a mask as a number.
 #[inline]
 fn window(mask: &[u8], first: usize) -> u32
     requires { first + 4 ≤ length mask.now }
@@ -74,6 +86,17 @@ fn window(mask: &[u8], first: usize) -> u32
         mask[first + 2],
         mask[first + 3],
     ])
+}
+
+// The mask of so many places with the bit after them set, and with bytes for a window at each place.
+fn marks_of(alloc: Global, mask: &[u8], size: usize) -> Result<Vec<u8>, AllocError>
+    requires { length mask.now ≡ bytes_for size }
+    ensures { IfOk result (λ marks. AreMarks size mask.now marks.items) }
+{
+    let mut marks = Vec::from_slice(alloc, mask)?;
+    marks.extend_from_slice(&[0; 4])?;
+    marks[size / 8] |= 1 << (size % 8);
+    Ok(marks)
 }
 
 // Whether the number is that of an opcode that ends a block.
@@ -121,12 +144,14 @@ impl Program {
         let table = Vec::from_slice(alloc, parts.table)?;
         let code = Vec::from_slice(alloc, parts.code)?;
         let mask = Vec::from_slice(alloc, parts.mask)?;
+        let marks = marks_of(alloc, parts.mask, parts.code.len())?;
         Ok(Program {
             count: parts.count,
             width: parts.width,
             table,
             code,
             mask,
+            marks,
         })
     }
 
@@ -186,38 +211,14 @@ impl Program {
         self.opcode(pc).unwrap_or(Op::Trap)
     }
 
-    // Of so many places, how many stand before the first at which an instruction begins.
-    #[tactic(auto, unfolding(crate::specs::Program::gap))]
-    fn gap(&self, from: u64, most: u8) -> u8
-        requires { from ≤ 2 ^ 63 }
-        ensures { result ≡ gap self.now from most }
-    {
-        for j in 0..most {
-            if self.mask_at(from + u64::from(j)) {
-                return j;
-            }
-        }
-        most
-    }
-
-    // The gap of 24 places that the code may end within. The last four bytes of the mask hold them, where it has
-    // so many.
+    // The marks of a place and of the 24 after it, the lowest bit first.
     #[inline]
-    fn gap_near_the_end(&self, from: u64) -> u8
-        requires within { from ≤ length self.now.code }
-        requires near { (length self.now.code + 7) / 8 ≤ from / 8 + 4 }
-        ensures { result ≡ gap self.now from 24 }
+    fn marks_from(&self, place: u64) -> u32
+        requires { place < length self.now.code }
+        ensures own { (result % 2 == 1) ≡ mask_bit self.now place }
+        ensures next { (n : ℕ) → FirstSet (result / 2) n → skip self.now place ≡ n }
     {
-        let size = self.code.len() as u64;
-        if from == size {
-            return 0;
-        }
-        if self.mask.len() < 4 {
-            return self.gap(from, 24);
-        }
-        let first = self.mask.len() - 4;
-        let zeros = zeros_before(window(&self.mask, first) >> (from - 8 * first as u64));
-        zeros.min((size - from).min(24) as u8)
+        window(&self.marks, (place / 8) as usize) >> (place % 8)
     }
 
     /// How many bytes of arguments the instruction at the place has: those up to the next one, and
@@ -230,13 +231,32 @@ impl Program {
         if pc >= self.code.len() as u64 {
             return 0;
         }
-        let from = pc + 1;
-        let first = (from / 8) as usize;
-        if first + 4 < self.mask.len() {
-            // Four bytes of the mask hold the bits of all 24 places.
-            return zeros_before(window(&self.mask, first) >> (from % 8));
+        zeros_before(self.marks_from(pc) >> 1)
+    }
+
+    /// The opcode and the skip of the instruction at the place, by one look at the mask.
+    #[inline]
+    #[tactic(auto, unfolding(crate::specs::Program::op_at))]
+    pub fn fetch(&self, pc: u64) -> Fetched
+        ensures op { result.op ≡ op_at self.now pc }
+        ensures skip { result.skip ≡ skip self.now pc }
+        ensures most { result.skip ≤ 24 }
+    {
+        if pc >= self.code.len() as u64 {
+            return Fetched {
+                op: Op::Trap,
+                skip: 0,
+            };
         }
-        self.gap_near_the_end(from)
+        let marks = self.marks_from(pc);
+        let skip = zeros_before(marks >> 1);
+        if marks % 2 == 0 {
+            return Fetched { op: Op::Trap, skip };
+        }
+        Fetched {
+            op: op_or_trap(self.code[pc as usize]),
+            skip,
+        }
     }
 
     // The nearest place before this one at which an instruction begins, at most so many before.

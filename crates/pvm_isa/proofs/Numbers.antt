@@ -2,9 +2,10 @@
 use Rattle.std.proofs.Common.{◌≡◌, ℕ, zero, suc, ◌+◌, ◌-◌, ◌*◌, ◌/◌, ◌%◌, ◌^◌, ◌<◌, ◌≤◌, true, false, List, [], ◌∷◌, length, take, drop, get_or, refl, sym, ap, ◌∙◌, inl, inr, arith, le-ltb, lt-ltb, lit<, ℤ}
 use Rattle.std.specs.Prelude.{nat_lt, if◌then◌else◌}
 use Rattle.std.proofs.lemmas.Bool.{cases_lt}
-use Rattle.std.proofs.lemmas.List.{get_or_past, get_or-drop}
+use Rattle.std.proofs.lemmas.List.{get_or_past, get_or-drop, take_all, length-drop}
 use Rattle.std.proofs.Math.Arith.{mod-mul}
-use Rattle.std.proofs.Math.Nat.{zero-mod, pow-suc}
+use Rattle.std.proofs.Math.Nat.{zero-mod, pow-suc, div-div-eq-div-mul}
+use Rattle.std.proofs.lemmas.Nat.{pow-add}
 use Rattle.std.proofs.Math.ListN.{drop_of_length-le}
 use Rattle.std.proofs.Math.Seq.{drop-cons, take-nil}
 use Rattle.std.specs.Int.{w64}
@@ -40,6 +41,27 @@ eight xs i = omega (
   number_at-step xs (i + 6) (i + 7) 1 (omega arith),
   number_at-step xs (i + 7) (i + 8) 0 (omega arith),
 )
+
+-- eight bytes that reach the end, without their first: the byte that follows them is past the end
+next-past : (xs : List ℕ) (i : ℕ) → ((k : ℕ) → get_or xs k 0 < 256) → length xs ≤ i + 8 → number_at xs i 8 / 2 ^ 8 ≡ number_at xs (i + 1) 8
+next-past xs i bytes reach =
+    let short : length (drop (i + 1) xs) ≤ 7 = omega (arith, length-drop (i + 1) xs) in
+    let same : number_at xs (i + 1) 7 ≡ number_at xs (i + 1) 8 =
+    ap little_number (take_all 7 (drop (i + 1) xs) short ∙ sym (take_all 8 (drop (i + 1) xs) (omega (arith, short)))) in
+    omega (arith, number_at-step xs i (i + 1) 7 (omega arith), bytes i, same)
+
+-- the same without the first n
+pub later-past : (xs : List ℕ) (i n : ℕ) → ((k : ℕ) → get_or xs k 0 < 256) → length xs ≤ i + 8 → number_at xs i 8 / 2 ^ (8 * n) ≡ number_at xs (i + n) 8
+later-past xs i zero bytes reach =
+    let whole : number_at xs i 8 / 1 ≡ number_at xs i 8 = omega arith in
+    whole ∙ ap (λ (k : ℕ). number_at xs k 8) (omega arith)
+later-past xs i (suc n) bytes reach =
+    ap (λ (k : ℕ). number_at xs i 8 / 2 ^ k) (omega arith)
+    ∙ ap (λ (k : ℕ). number_at xs i 8 / k) (pow-add 2 8 (8 * n))
+    ∙ sym (div-div-eq-div-mul (number_at xs i 8) (2 ^ 8) (2 ^ (8 * n)))
+    ∙ ap (λ (k : ℕ). k / 2 ^ (8 * n)) (next-past xs i bytes reach)
+    ∙ later-past xs (i + 1) n bytes (omega (arith, reach))
+    ∙ ap (λ (k : ℕ). number_at xs k 8) (omega arith)
 
 -- the first few bytes
 above_zero : (n : ℕ) → 0 < 256 ^ n

@@ -10,8 +10,26 @@ pub fn byte_at(code: &[u8], place: u64) -> u8
     code.get(place as usize).copied().unwrap_or(0)
 }
 
+// The number in eight bytes of the code, in one load.
+#[inline]
+fn eight_at(code: &[u8], from: usize) -> u64
+    requires { from + 8 ≤ length code.now }
+    ensures { result ≡ number_at code.now from 8 }
+{
+    u64::from_le_bytes([
+        code[from],
+        code[from + 1],
+        code[from + 2],
+        code[from + 3],
+        code[from + 4],
+        code[from + 5],
+        code[from + 6],
+        code[from + 7],
+    ])
+}
+
 // The number in the eight bytes of the code at a place, each read alone. Past the code they are 0.
-fn eight_near_end(code: &[u8], place: u64) -> u64
+fn eight_one_by_one(code: &[u8], place: u64) -> u64
     requires { place < 2 ^ 63 + 2 ^ 32 }
     ensures { result ≡ number_at code.now place 8 }
 {
@@ -27,6 +45,20 @@ fn eight_near_end(code: &[u8], place: u64) -> u64
     ])
 }
 
+// The same where the code ends before the eighth: of its last eight bytes, those before the place are shifted out.
+#[inline(never)]
+fn eight_near_end(code: &[u8], place: u64) -> u64
+    requires near { length code.now < place + 8 }
+    requires within { place < 2 ^ 63 + 2 ^ 32 }
+    ensures { result ≡ number_at code.now place 8 }
+{
+    let size = code.len() as u64;
+    if place >= size || size < 8 {
+        return eight_one_by_one(code, place);
+    }
+    eight_at(code, code.len() - 8) >> (8 * (place + 8 - size))
+}
+
 /// The number in the eight bytes of the code at a place, the least significant first. Past the
 /// code they are 0.
 #[inline]
@@ -36,17 +68,7 @@ pub fn eight_bytes(code: &[u8], place: u64) -> u64
 {
     let from = place as usize;
     if from + 8 <= code.len() {
-        // One load, as all eight are there.
-        return u64::from_le_bytes([
-            code[from],
-            code[from + 1],
-            code[from + 2],
-            code[from + 3],
-            code[from + 4],
-            code[from + 5],
-            code[from + 6],
-            code[from + 7],
-        ]);
+        return eight_at(code, from);
     }
     eight_near_end(code, place)
 }

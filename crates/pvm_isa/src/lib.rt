@@ -17,7 +17,7 @@ pub use arguments::{
 pub use form::Form;
 pub use laws::opcode_laws;
 pub use op::Op;
-pub use opcodes::{form_of, is_terminator, name_of, number_of, op_named, op_of};
+pub use opcodes::{form_of, is_terminator, name_of, number_of, op_named, op_of, op_or_trap};
 
 #[cfg(test)]
 mod tests;

@@ -5,6 +5,7 @@ use std::test::*;
 
 fn stands(rt: &impl Abort, number: u8, name: &str, op: Op, ends: bool) {
     assert_eq!(rt; op_of(number), Some(op), "number {number}");
+    assert_eq!(rt; op_or_trap(number), op, "number {number}");
     assert_eq!(rt; number_of(op), number, "number of {name}");
     assert_eq!(rt; op_named(name), Some(op), "name {name}");
     assert!(rt; name_of(op) == name, "name of {number}");
@@ -34,6 +35,7 @@ fn numbers_and_names_stand_for_opcodes(rt: HostRuntime) {
 fn other_numbers_and_names_stand_for_none(rt: HostRuntime) {
     for number in [2, 9, 34, 63, 91, 112, 162, 176, 181, 231, 255] {
         assert_eq!(rt; op_of(number), None, "number {number}");
+        assert_eq!(rt; op_or_trap(number), Op::Trap, "number {number}");
     }
     for name in [
         "",

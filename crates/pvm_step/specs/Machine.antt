@@ -7,7 +7,7 @@ use Rattle.paged_memory.specs.Codes.{memory_code}
 use Rattle.pvm_step.specs.declared.exit.Exit.{Exit}
 use Rattle.pvm_step.specs.declared.exit.Exit.TheVariants.{Panic}
 use Rattle.pvm_step.specs.declared.went.Went.{Went}
-use Rattle.pvm_step.specs.declared.went.Went.TheVariants.{On, Panics, Beyond}
+use Rattle.pvm_step.specs.declared.went.Went.TheVariants.{On, Jumped, Panics, Beyond}
 use Rattle.pvm_step.specs.declared.exit.Progress.{Progress}
 use Rattle.pvm_step.specs.declared.exit.Progress.TheVariants.{Ended, Paused}
 use Rattle.pvm_step.specs.Effect.{State, Heap, After}
@@ -39,17 +39,20 @@ exit_in Paused = None
 -- the exit of an instruction that goes on or panics, and whether there was one
 abbrev pub exit_after : Went → Option Exit
 exit_after On = None
+exit_after Jumped = None
 exit_after Panics = Some Panic
 exit_after Beyond = None
 
 abbrev pub is_done : Went → Bool
 is_done On = true
+is_done Jumped = true
 is_done Panics = true
 is_done Beyond = false
 
 -- what was done, or what was there before
 abbrev pub done_or : Went → After → After → After
 done_or On done before = done
+done_or Jumped done before = done
 done_or Panics done before = done
 done_or Beyond done before = before
 

@@ -2,6 +2,7 @@
 ghost use Rattle.std.specs.Prelude.{◌≡◌, ◌<◌, ◌≤◌, false, None, length, IfOk, OnErr};
 ghost use Rattle.blob_decode.specs.Program as blob;
 ghost use Rattle.pvm_step.specs.Effect.{outcome};
+ghost use Rattle.pvm_step.specs.declared.went.Went.TheVariants.{On};
 ghost use Rattle.pvm_step.specs.Machine.{state_of, after_of, exit_after, is_done, done_or};
 ghost use Rattle.pvm_step.specs.Named.{on_registers};
 
@@ -15,11 +16,13 @@ impl Machine {
     /// Does the instruction of an opcode that works on the registers alone; of another it does nothing.
     #[inline(always)]
     #[tactic(auto, unfolding(crate::specs::Effect::outcome, crate::specs::Effect::line, crate::specs::Effect::after, crate::specs::Named::on_registers, pvm_isa::specs::Opcodes::entry, pvm_alu::specs::Alu::binary_line, pvm_alu::specs::Alu::unary_line, pvm_alu::specs::Alu::test_line))]
-    fn act_on_registers(&mut self, op: Op, skip: u8) -> Went
+    pub(crate) fn act_on_registers(&mut self, op: Op, pc: u64, skip: u8) -> Went
+        requires here { pc ≡ self.old.pc }
         requires within { self.old.pc < length self.old.program.code }
         requires skip { skip ≡ blob.skip self.old.program self.old.pc }
         requires short { skip ≤ 24 }
         ensures acts { after_of self.new (exit_after result) ≡ done_or result (outcome op self.old.program (state_of self.old)) (after_of self.old None) }
+        ensures next { result ≡ On → self.new.pc ≡ blob.next self.old.program self.old.pc }
         ensures done { is_done result ≡ on_registers op }
         ensures same { result ≡ Went.Beyond → self.new ≡ self.old }
         ensures program { self.new.program ≡ self.old.program }
@@ -27,110 +30,110 @@ impl Machine {
     {
         match op {
             Op::Trap => Went::Panics,
-            Op::Fallthrough => self.fall_through(skip),
-            Op::LoadImm64 => self.load_imm_64(skip),
-            Op::Jump => self.jump_on(skip),
-            Op::LoadImm => self.load_imm(skip),
-            Op::LoadImmJump => self.load_imm_jump(skip),
-            Op::BranchEqImm => self.branch_on_a_x(Op::BranchEqImm, skip),
-            Op::BranchNeImm => self.branch_on_a_x(Op::BranchNeImm, skip),
-            Op::BranchLtUImm => self.branch_on_a_x(Op::BranchLtUImm, skip),
-            Op::BranchLeUImm => self.branch_on_a_x(Op::BranchLeUImm, skip),
-            Op::BranchGeUImm => self.branch_on_a_x(Op::BranchGeUImm, skip),
-            Op::BranchGtUImm => self.branch_on_a_x(Op::BranchGtUImm, skip),
-            Op::BranchLtSImm => self.branch_on_a_x(Op::BranchLtSImm, skip),
-            Op::BranchLeSImm => self.branch_on_a_x(Op::BranchLeSImm, skip),
-            Op::BranchGeSImm => self.branch_on_a_x(Op::BranchGeSImm, skip),
-            Op::BranchGtSImm => self.branch_on_a_x(Op::BranchGtSImm, skip),
-            Op::MoveReg => self.move_reg(skip),
-            Op::CountSetBits64 => self.give_of_a(Op::CountSetBits64, skip),
-            Op::CountSetBits32 => self.give_of_a(Op::CountSetBits32, skip),
-            Op::LeadingZeroBits64 => self.give_of_a(Op::LeadingZeroBits64, skip),
-            Op::LeadingZeroBits32 => self.give_of_a(Op::LeadingZeroBits32, skip),
-            Op::TrailingZeroBits64 => self.give_of_a(Op::TrailingZeroBits64, skip),
-            Op::TrailingZeroBits32 => self.give_of_a(Op::TrailingZeroBits32, skip),
-            Op::SignExtend8 => self.give_of_a(Op::SignExtend8, skip),
-            Op::SignExtend16 => self.give_of_a(Op::SignExtend16, skip),
-            Op::ZeroExtend16 => self.give_of_a(Op::ZeroExtend16, skip),
-            Op::ReverseBytes => self.give_of_a(Op::ReverseBytes, skip),
-            Op::AddImm32 => self.give_of_b_x(Op::AddImm32, skip),
-            Op::AndImm => self.give_of_b_x(Op::AndImm, skip),
-            Op::XorImm => self.give_of_b_x(Op::XorImm, skip),
-            Op::OrImm => self.give_of_b_x(Op::OrImm, skip),
-            Op::MulImm32 => self.give_of_b_x(Op::MulImm32, skip),
-            Op::SetLtUImm => self.give_of_b_x(Op::SetLtUImm, skip),
-            Op::SetLtSImm => self.give_of_b_x(Op::SetLtSImm, skip),
-            Op::ShloLImm32 => self.give_of_b_x(Op::ShloLImm32, skip),
-            Op::ShloRImm32 => self.give_of_b_x(Op::ShloRImm32, skip),
-            Op::SharRImm32 => self.give_of_b_x(Op::SharRImm32, skip),
-            Op::NegAddImm32 => self.give_of_b_x(Op::NegAddImm32, skip),
-            Op::SetGtUImm => self.give_of_b_x(Op::SetGtUImm, skip),
-            Op::SetGtSImm => self.give_of_b_x(Op::SetGtSImm, skip),
-            Op::ShloLImmAlt32 => self.give_of_b_x(Op::ShloLImmAlt32, skip),
-            Op::ShloRImmAlt32 => self.give_of_b_x(Op::ShloRImmAlt32, skip),
-            Op::SharRImmAlt32 => self.give_of_b_x(Op::SharRImmAlt32, skip),
-            Op::CmovIzImm => self.cmov_iz_imm(skip),
-            Op::CmovNzImm => self.cmov_nz_imm(skip),
-            Op::AddImm64 => self.give_of_b_x(Op::AddImm64, skip),
-            Op::MulImm64 => self.give_of_b_x(Op::MulImm64, skip),
-            Op::ShloLImm64 => self.give_of_b_x(Op::ShloLImm64, skip),
-            Op::ShloRImm64 => self.give_of_b_x(Op::ShloRImm64, skip),
-            Op::SharRImm64 => self.give_of_b_x(Op::SharRImm64, skip),
-            Op::NegAddImm64 => self.give_of_b_x(Op::NegAddImm64, skip),
-            Op::ShloLImmAlt64 => self.give_of_b_x(Op::ShloLImmAlt64, skip),
-            Op::ShloRImmAlt64 => self.give_of_b_x(Op::ShloRImmAlt64, skip),
-            Op::SharRImmAlt64 => self.give_of_b_x(Op::SharRImmAlt64, skip),
-            Op::RotR64Imm => self.give_of_b_x(Op::RotR64Imm, skip),
-            Op::RotR64ImmAlt => self.give_of_b_x(Op::RotR64ImmAlt, skip),
-            Op::RotR32Imm => self.give_of_b_x(Op::RotR32Imm, skip),
-            Op::RotR32ImmAlt => self.give_of_b_x(Op::RotR32ImmAlt, skip),
-            Op::BranchEq => self.branch_on_a_b(Op::BranchEq, skip),
-            Op::BranchNe => self.branch_on_a_b(Op::BranchNe, skip),
-            Op::BranchLtU => self.branch_on_a_b(Op::BranchLtU, skip),
-            Op::BranchLtS => self.branch_on_a_b(Op::BranchLtS, skip),
-            Op::BranchGeU => self.branch_on_a_b(Op::BranchGeU, skip),
-            Op::BranchGeS => self.branch_on_a_b(Op::BranchGeS, skip),
-            Op::Add32 => self.give_of_a_b(Op::Add32, skip),
-            Op::Sub32 => self.give_of_a_b(Op::Sub32, skip),
-            Op::Mul32 => self.give_of_a_b(Op::Mul32, skip),
-            Op::DivU32 => self.give_of_a_b(Op::DivU32, skip),
-            Op::DivS32 => self.give_of_a_b(Op::DivS32, skip),
-            Op::RemU32 => self.give_of_a_b(Op::RemU32, skip),
-            Op::RemS32 => self.give_of_a_b(Op::RemS32, skip),
-            Op::ShloL32 => self.give_of_a_b(Op::ShloL32, skip),
-            Op::ShloR32 => self.give_of_a_b(Op::ShloR32, skip),
-            Op::SharR32 => self.give_of_a_b(Op::SharR32, skip),
-            Op::Add64 => self.give_of_a_b(Op::Add64, skip),
-            Op::Sub64 => self.give_of_a_b(Op::Sub64, skip),
-            Op::Mul64 => self.give_of_a_b(Op::Mul64, skip),
-            Op::DivU64 => self.give_of_a_b(Op::DivU64, skip),
-            Op::DivS64 => self.give_of_a_b(Op::DivS64, skip),
-            Op::RemU64 => self.give_of_a_b(Op::RemU64, skip),
-            Op::RemS64 => self.give_of_a_b(Op::RemS64, skip),
-            Op::ShloL64 => self.give_of_a_b(Op::ShloL64, skip),
-            Op::ShloR64 => self.give_of_a_b(Op::ShloR64, skip),
-            Op::SharR64 => self.give_of_a_b(Op::SharR64, skip),
-            Op::And => self.give_of_a_b(Op::And, skip),
-            Op::Xor => self.give_of_a_b(Op::Xor, skip),
-            Op::Or => self.give_of_a_b(Op::Or, skip),
-            Op::MulUpperSS => self.give_of_a_b(Op::MulUpperSS, skip),
-            Op::MulUpperUU => self.give_of_a_b(Op::MulUpperUU, skip),
-            Op::MulUpperSU => self.give_of_a_b(Op::MulUpperSU, skip),
-            Op::SetLtU => self.give_of_a_b(Op::SetLtU, skip),
-            Op::SetLtS => self.give_of_a_b(Op::SetLtS, skip),
-            Op::CmovIz => self.cmov_iz(skip),
-            Op::CmovNz => self.cmov_nz(skip),
-            Op::RotL64 => self.give_of_a_b(Op::RotL64, skip),
-            Op::RotL32 => self.give_of_a_b(Op::RotL32, skip),
-            Op::RotR64 => self.give_of_a_b(Op::RotR64, skip),
-            Op::RotR32 => self.give_of_a_b(Op::RotR32, skip),
-            Op::AndInv => self.give_of_a_b(Op::AndInv, skip),
-            Op::OrInv => self.give_of_a_b(Op::OrInv, skip),
-            Op::Xnor => self.give_of_a_b(Op::Xnor, skip),
-            Op::Max => self.give_of_a_b(Op::Max, skip),
-            Op::MaxU => self.give_of_a_b(Op::MaxU, skip),
-            Op::Min => self.give_of_a_b(Op::Min, skip),
-            Op::MinU => self.give_of_a_b(Op::MinU, skip),
+            Op::Fallthrough => self.fall_through(pc, skip),
+            Op::LoadImm64 => self.load_imm_64(pc, skip),
+            Op::Jump => self.jump_on(pc, skip),
+            Op::LoadImm => self.load_imm(pc, skip),
+            Op::LoadImmJump => self.load_imm_jump(pc, skip),
+            Op::BranchEqImm => self.branch_on_a_x(Op::BranchEqImm, pc, skip),
+            Op::BranchNeImm => self.branch_on_a_x(Op::BranchNeImm, pc, skip),
+            Op::BranchLtUImm => self.branch_on_a_x(Op::BranchLtUImm, pc, skip),
+            Op::BranchLeUImm => self.branch_on_a_x(Op::BranchLeUImm, pc, skip),
+            Op::BranchGeUImm => self.branch_on_a_x(Op::BranchGeUImm, pc, skip),
+            Op::BranchGtUImm => self.branch_on_a_x(Op::BranchGtUImm, pc, skip),
+            Op::BranchLtSImm => self.branch_on_a_x(Op::BranchLtSImm, pc, skip),
+            Op::BranchLeSImm => self.branch_on_a_x(Op::BranchLeSImm, pc, skip),
+            Op::BranchGeSImm => self.branch_on_a_x(Op::BranchGeSImm, pc, skip),
+            Op::BranchGtSImm => self.branch_on_a_x(Op::BranchGtSImm, pc, skip),
+            Op::MoveReg => self.move_reg(pc, skip),
+            Op::CountSetBits64 => self.give_of_a(Op::CountSetBits64, pc, skip),
+            Op::CountSetBits32 => self.give_of_a(Op::CountSetBits32, pc, skip),
+            Op::LeadingZeroBits64 => self.give_of_a(Op::LeadingZeroBits64, pc, skip),
+            Op::LeadingZeroBits32 => self.give_of_a(Op::LeadingZeroBits32, pc, skip),
+            Op::TrailingZeroBits64 => self.give_of_a(Op::TrailingZeroBits64, pc, skip),
+            Op::TrailingZeroBits32 => self.give_of_a(Op::TrailingZeroBits32, pc, skip),
+            Op::SignExtend8 => self.give_of_a(Op::SignExtend8, pc, skip),
+            Op::SignExtend16 => self.give_of_a(Op::SignExtend16, pc, skip),
+            Op::ZeroExtend16 => self.give_of_a(Op::ZeroExtend16, pc, skip),
+            Op::ReverseBytes => self.give_of_a(Op::ReverseBytes, pc, skip),
+            Op::AddImm32 => self.give_of_b_x(Op::AddImm32, pc, skip),
+            Op::AndImm => self.give_of_b_x(Op::AndImm, pc, skip),
+            Op::XorImm => self.give_of_b_x(Op::XorImm, pc, skip),
+            Op::OrImm => self.give_of_b_x(Op::OrImm, pc, skip),
+            Op::MulImm32 => self.give_of_b_x(Op::MulImm32, pc, skip),
+            Op::SetLtUImm => self.give_of_b_x(Op::SetLtUImm, pc, skip),
+            Op::SetLtSImm => self.give_of_b_x(Op::SetLtSImm, pc, skip),
+            Op::ShloLImm32 => self.give_of_b_x(Op::ShloLImm32, pc, skip),
+            Op::ShloRImm32 => self.give_of_b_x(Op::ShloRImm32, pc, skip),
+            Op::SharRImm32 => self.give_of_b_x(Op::SharRImm32, pc, skip),
+            Op::NegAddImm32 => self.give_of_b_x(Op::NegAddImm32, pc, skip),
+            Op::SetGtUImm => self.give_of_b_x(Op::SetGtUImm, pc, skip),
+            Op::SetGtSImm => self.give_of_b_x(Op::SetGtSImm, pc, skip),
+            Op::ShloLImmAlt32 => self.give_of_b_x(Op::ShloLImmAlt32, pc, skip),
+            Op::ShloRImmAlt32 => self.give_of_b_x(Op::ShloRImmAlt32, pc, skip),
+            Op::SharRImmAlt32 => self.give_of_b_x(Op::SharRImmAlt32, pc, skip),
+            Op::CmovIzImm => self.cmov_iz_imm(pc, skip),
+            Op::CmovNzImm => self.cmov_nz_imm(pc, skip),
+            Op::AddImm64 => self.give_of_b_x(Op::AddImm64, pc, skip),
+            Op::MulImm64 => self.give_of_b_x(Op::MulImm64, pc, skip),
+            Op::ShloLImm64 => self.give_of_b_x(Op::ShloLImm64, pc, skip),
+            Op::ShloRImm64 => self.give_of_b_x(Op::ShloRImm64, pc, skip),
+            Op::SharRImm64 => self.give_of_b_x(Op::SharRImm64, pc, skip),
+            Op::NegAddImm64 => self.give_of_b_x(Op::NegAddImm64, pc, skip),
+            Op::ShloLImmAlt64 => self.give_of_b_x(Op::ShloLImmAlt64, pc, skip),
+            Op::ShloRImmAlt64 => self.give_of_b_x(Op::ShloRImmAlt64, pc, skip),
+            Op::SharRImmAlt64 => self.give_of_b_x(Op::SharRImmAlt64, pc, skip),
+            Op::RotR64Imm => self.give_of_b_x(Op::RotR64Imm, pc, skip),
+            Op::RotR64ImmAlt => self.give_of_b_x(Op::RotR64ImmAlt, pc, skip),
+            Op::RotR32Imm => self.give_of_b_x(Op::RotR32Imm, pc, skip),
+            Op::RotR32ImmAlt => self.give_of_b_x(Op::RotR32ImmAlt, pc, skip),
+            Op::BranchEq => self.branch_on_a_b(Op::BranchEq, pc, skip),
+            Op::BranchNe => self.branch_on_a_b(Op::BranchNe, pc, skip),
+            Op::BranchLtU => self.branch_on_a_b(Op::BranchLtU, pc, skip),
+            Op::BranchLtS => self.branch_on_a_b(Op::BranchLtS, pc, skip),
+            Op::BranchGeU => self.branch_on_a_b(Op::BranchGeU, pc, skip),
+            Op::BranchGeS => self.branch_on_a_b(Op::BranchGeS, pc, skip),
+            Op::Add32 => self.give_of_a_b(Op::Add32, pc, skip),
+            Op::Sub32 => self.give_of_a_b(Op::Sub32, pc, skip),
+            Op::Mul32 => self.give_of_a_b(Op::Mul32, pc, skip),
+            Op::DivU32 => self.give_of_a_b(Op::DivU32, pc, skip),
+            Op::DivS32 => self.give_of_a_b(Op::DivS32, pc, skip),
+            Op::RemU32 => self.give_of_a_b(Op::RemU32, pc, skip),
+            Op::RemS32 => self.give_of_a_b(Op::RemS32, pc, skip),
+            Op::ShloL32 => self.give_of_a_b(Op::ShloL32, pc, skip),
+            Op::ShloR32 => self.give_of_a_b(Op::ShloR32, pc, skip),
+            Op::SharR32 => self.give_of_a_b(Op::SharR32, pc, skip),
+            Op::Add64 => self.give_of_a_b(Op::Add64, pc, skip),
+            Op::Sub64 => self.give_of_a_b(Op::Sub64, pc, skip),
+            Op::Mul64 => self.give_of_a_b(Op::Mul64, pc, skip),
+            Op::DivU64 => self.give_of_a_b(Op::DivU64, pc, skip),
+            Op::DivS64 => self.give_of_a_b(Op::DivS64, pc, skip),
+            Op::RemU64 => self.give_of_a_b(Op::RemU64, pc, skip),
+            Op::RemS64 => self.give_of_a_b(Op::RemS64, pc, skip),
+            Op::ShloL64 => self.give_of_a_b(Op::ShloL64, pc, skip),
+            Op::ShloR64 => self.give_of_a_b(Op::ShloR64, pc, skip),
+            Op::SharR64 => self.give_of_a_b(Op::SharR64, pc, skip),
+            Op::And => self.give_of_a_b(Op::And, pc, skip),
+            Op::Xor => self.give_of_a_b(Op::Xor, pc, skip),
+            Op::Or => self.give_of_a_b(Op::Or, pc, skip),
+            Op::MulUpperSS => self.give_of_a_b(Op::MulUpperSS, pc, skip),
+            Op::MulUpperUU => self.give_of_a_b(Op::MulUpperUU, pc, skip),
+            Op::MulUpperSU => self.give_of_a_b(Op::MulUpperSU, pc, skip),
+            Op::SetLtU => self.give_of_a_b(Op::SetLtU, pc, skip),
+            Op::SetLtS => self.give_of_a_b(Op::SetLtS, pc, skip),
+            Op::CmovIz => self.cmov_iz(pc, skip),
+            Op::CmovNz => self.cmov_nz(pc, skip),
+            Op::RotL64 => self.give_of_a_b(Op::RotL64, pc, skip),
+            Op::RotL32 => self.give_of_a_b(Op::RotL32, pc, skip),
+            Op::RotR64 => self.give_of_a_b(Op::RotR64, pc, skip),
+            Op::RotR32 => self.give_of_a_b(Op::RotR32, pc, skip),
+            Op::AndInv => self.give_of_a_b(Op::AndInv, pc, skip),
+            Op::OrInv => self.give_of_a_b(Op::OrInv, pc, skip),
+            Op::Xnor => self.give_of_a_b(Op::Xnor, pc, skip),
+            Op::Max => self.give_of_a_b(Op::Max, pc, skip),
+            Op::MaxU => self.give_of_a_b(Op::MaxU, pc, skip),
+            Op::Min => self.give_of_a_b(Op::Min, pc, skip),
+            Op::MinU => self.give_of_a_b(Op::MinU, pc, skip),
             _ => Went::Beyond,
         }
     }
@@ -138,7 +141,7 @@ impl Machine {
     /// What another opcode does at the pc.
     #[inline(never)]
     #[tactic(auto, unfolding(crate::specs::Effect::outcome, crate::specs::Effect::line, crate::specs::Effect::after, crate::specs::Named::on_registers, pvm_isa::specs::Opcodes::entry, pvm_alu::specs::Alu::widen_line, pvm_alu::specs::Alu::loaded_bytes))]
-    fn act_beyond(&mut self, op: Op, skip: u8) -> Result<Option<Exit>, AllocError>
+    pub(crate) fn act_beyond(&mut self, op: Op, skip: u8) -> Result<Option<Exit>, AllocError>
         requires within { self.old.pc < length self.old.program.code }
         requires skip { skip ≡ blob.skip self.old.program self.old.pc }
         requires short { skip ≤ 24 }
@@ -184,24 +187,6 @@ impl Machine {
             Op::LoadIndU64 => self.load_at_b_x(Op::LoadIndU64, 8, skip),
             Op::LoadImmJumpInd => self.load_imm_jump_ind(skip),
             _ => unreachable!(),
-        }
-    }
-
-    /// What the instruction of an opcode does at the pc.
-    #[inline(always)]
-    pub(crate) fn act(&mut self, op: Op, skip: u8) -> Result<Option<Exit>, AllocError>
-        requires within { self.old.pc < length self.old.program.code }
-        requires skip { skip ≡ blob.skip self.old.program self.old.pc }
-        requires short { skip ≤ 24 }
-        ensures acts { IfOk result (λ exit. after_of self.new exit ≡ outcome op self.old.program (state_of self.old)) }
-        ensures program { self.new.program ≡ self.old.program }
-        ensures gas { self.new.gas ≡ self.old.gas }
-        ensures err { OnErr result (self.new ≡ self.old) }
-    {
-        match self.act_on_registers(op, skip) {
-            Went::On => Ok(None),
-            Went::Panics => Ok(Some(Exit::Panic)),
-            Went::Beyond => self.act_beyond(op, skip),
         }
     }
 }

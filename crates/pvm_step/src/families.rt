@@ -8,6 +8,7 @@ ghost use Rattle.blob_decode.specs.Program as blob;
 ghost use Rattle.paged_memory.specs.PageMap.{is_width};
 ghost use Rattle.pvm_alu.specs.Alu as alu;
 ghost use Rattle.pvm_step.specs.Effect.{gives_of_a, gives_of_a_b, gives_of_b_x, loads_at_x, loads_at_b_x, stores_y_at_x, stores_a_at_x, stores_y_at_a_x, stores_a_at_b_x, branches_on_a_x, branches_on_a_b, after};
+ghost use Rattle.pvm_step.specs.declared.went.Went.TheVariants.{On};
 ghost use Rattle.pvm_step.specs.Machine.{state_of, after_of, exit_after, is_done};
 
 use crate::address::{address, address_from};
@@ -25,55 +26,61 @@ use std::alloc::AllocError;
 impl Machine {
     /// An operation with the values of two registers.
     #[inline(always)]
-    pub(crate) fn give_of_a_b(&mut self, op: Op, skip: u8) -> Went
+    pub(crate) fn give_of_a_b(&mut self, op: Op, pc: u64, skip: u8) -> Went
         requires operation { IsTrue (alu.is_binary op) }
+        requires here { pc ≡ self.old.pc }
         requires within { self.old.pc < length self.old.program.code }
         requires skip { skip ≡ blob.skip self.old.program self.old.pc }
         requires short { skip ≤ 24 }
         ensures acts { after_of self.new (exit_after result) ≡ after self.old.program (state_of self.old) (gives_of_a_b op (arguments F13 self.old.program.code self.old.pc skip) (state_of self.old)) }
+        ensures next { result ≡ On → self.new.pc ≡ blob.next self.old.program self.old.pc }
         ensures done { is_done result ≡ true }
         ensures program { self.new.program ≡ self.old.program }
         ensures gas { self.new.gas ≡ self.old.gas }
     {
-        let at = three_registers(self.program.code(), self.pc);
+        let at = three_registers(self.program.code(), pc);
         let value = binary(op, self.value(at.a), self.value(at.b));
-        self.give(at.d, value, skip);
+        self.give(at.d, value, pc, skip);
         Went::On
     }
 
     /// An operation with the value of a register and an immediate.
     #[inline(always)]
-    pub(crate) fn give_of_b_x(&mut self, op: Op, skip: u8) -> Went
+    pub(crate) fn give_of_b_x(&mut self, op: Op, pc: u64, skip: u8) -> Went
         requires operation { IsTrue (alu.is_binary op) }
+        requires here { pc ≡ self.old.pc }
         requires within { self.old.pc < length self.old.program.code }
         requires skip { skip ≡ blob.skip self.old.program self.old.pc }
         requires short { skip ≤ 24 }
         ensures acts { after_of self.new (exit_after result) ≡ after self.old.program (state_of self.old) (gives_of_b_x op (arguments F10 self.old.program.code self.old.pc skip) (state_of self.old)) }
+        ensures next { result ≡ On → self.new.pc ≡ blob.next self.old.program self.old.pc }
         ensures done { is_done result ≡ true }
         ensures program { self.new.program ≡ self.old.program }
         ensures gas { self.new.gas ≡ self.old.gas }
     {
-        let at = two_registers_and_immediate(self.program.code(), self.pc, skip);
+        let at = two_registers_and_immediate(self.program.code(), pc, skip);
         let value = binary(op, self.value(at.b), at.x);
-        self.give(at.a, value, skip);
+        self.give(at.a, value, pc, skip);
         Went::On
     }
 
     /// An operation with the value of a register.
     #[inline(always)]
-    pub(crate) fn give_of_a(&mut self, op: Op, skip: u8) -> Went
+    pub(crate) fn give_of_a(&mut self, op: Op, pc: u64, skip: u8) -> Went
         requires operation { IsTrue (alu.is_unary op) }
+        requires here { pc ≡ self.old.pc }
         requires within { self.old.pc < length self.old.program.code }
         requires skip { skip ≡ blob.skip self.old.program self.old.pc }
         requires short { skip ≤ 24 }
         ensures acts { after_of self.new (exit_after result) ≡ after self.old.program (state_of self.old) (gives_of_a op (arguments F9 self.old.program.code self.old.pc skip) (state_of self.old)) }
+        ensures next { result ≡ On → self.new.pc ≡ blob.next self.old.program self.old.pc }
         ensures done { is_done result ≡ true }
         ensures program { self.new.program ≡ self.old.program }
         ensures gas { self.new.gas ≡ self.old.gas }
     {
-        let at = two_registers(self.program.code(), self.pc);
+        let at = two_registers(self.program.code(), pc);
         let value = unary(op, self.value(at.a));
-        self.give(at.d, value, skip);
+        self.give(at.d, value, pc, skip);
         Went::On
     }
 
@@ -194,35 +201,39 @@ impl Machine {
 
     /// A branch on the value of a register and an immediate.
     #[inline(never)]
-    pub(crate) fn branch_on_a_x(&mut self, op: Op, skip: u8) -> Went
+    pub(crate) fn branch_on_a_x(&mut self, op: Op, pc: u64, skip: u8) -> Went
         requires operation { IsTrue (alu.is_test op) }
+        requires here { pc ≡ self.old.pc }
         requires within { self.old.pc < length self.old.program.code }
         requires skip { skip ≡ blob.skip self.old.program self.old.pc }
         requires short { skip ≤ 24 }
         ensures acts { after_of self.new (exit_after result) ≡ after self.old.program (state_of self.old) (branches_on_a_x op (arguments F8 self.old.program.code self.old.pc skip) (state_of self.old)) }
+        ensures next { result ≡ On → self.new.pc ≡ blob.next self.old.program self.old.pc }
         ensures done { is_done result ≡ true }
         ensures program { self.new.program ≡ self.old.program }
         ensures gas { self.new.gas ≡ self.old.gas }
     {
-        let at = register_immediate_and_offset(self.program.code(), self.pc, skip);
+        let at = register_immediate_and_offset(self.program.code(), pc, skip);
         let taken = test(op, self.value(at.a), at.x);
-        self.branch(taken, at.target, skip)
+        self.branch(taken, at.target, pc, skip)
     }
 
     /// A branch on the values of two registers.
     #[inline(never)]
-    pub(crate) fn branch_on_a_b(&mut self, op: Op, skip: u8) -> Went
+    pub(crate) fn branch_on_a_b(&mut self, op: Op, pc: u64, skip: u8) -> Went
         requires operation { IsTrue (alu.is_test op) }
+        requires here { pc ≡ self.old.pc }
         requires within { self.old.pc < length self.old.program.code }
         requires skip { skip ≡ blob.skip self.old.program self.old.pc }
         requires short { skip ≤ 24 }
         ensures acts { after_of self.new (exit_after result) ≡ after self.old.program (state_of self.old) (branches_on_a_b op (arguments F11 self.old.program.code self.old.pc skip) (state_of self.old)) }
+        ensures next { result ≡ On → self.new.pc ≡ blob.next self.old.program self.old.pc }
         ensures done { is_done result ≡ true }
         ensures program { self.new.program ≡ self.old.program }
         ensures gas { self.new.gas ≡ self.old.gas }
     {
-        let at = two_registers_and_offset(self.program.code(), self.pc, skip);
+        let at = two_registers_and_offset(self.program.code(), pc, skip);
         let taken = test(op, self.value(at.a), self.value(at.b));
-        self.branch(taken, at.target, skip)
+        self.branch(taken, at.target, pc, skip)
     }
 }

@@ -5,6 +5,7 @@ ghost use Rattle.blob_decode.specs.Program.{next, jump_to, jump_through};
 ghost use Rattle.paged_memory.specs.PageMap.{is_width};
 ghost use Rattle.pvm_alu.specs.Alu as alu;
 ghost use Rattle.pvm_step.specs.Effect.{Gives, Loads, Stores, Branches, Moves, Grows, after, lands, grown, value_in, exit_of};
+ghost use Rattle.pvm_step.specs.declared.went.Went.TheVariants.{On};
 ghost use Rattle.pvm_step.specs.Machine.{state_of, after_of, exit_after, is_done};
 
 use crate::exit::Exit;
@@ -40,44 +41,49 @@ impl Machine {
 
     /// Goes to the next instruction.
     #[inline(always)]
-    pub(crate) fn go_on(&mut self, skip: u8)
+    pub(crate) fn go_on(&mut self, pc: u64, skip: u8)
+        requires here { pc ≡ self.old.pc }
         requires place { self.old.pc < 2 ^ 63 }
         requires skip { skip ≡ blob.skip self.old.program self.old.pc }
         ensures { self.new ≡ record self.old { pc = next self.old.program self.old.pc } }
     {
-        self.pc += 1 + u64::from(skip);
+        self.pc = pc + 1 + u64::from(skip);
     }
 
     /// Sets a register, and goes to the next instruction.
     #[inline(always)]
     #[tactic(auto, unfolding(crate::specs::Effect::after))]
-    pub(crate) fn give(&mut self, register: u8, value: u64, skip: u8)
+    pub(crate) fn give(&mut self, register: u8, value: u64, pc: u64, skip: u8)
+        requires here { pc ≡ self.old.pc }
         requires register { register < 13 }
         requires place { self.old.pc < 2 ^ 63 }
         requires skip { skip ≡ blob.skip self.old.program self.old.pc }
         ensures acts { after_of self.new None ≡ after self.old.program (state_of self.old) (Gives register value) }
+        ensures next { self.new.pc ≡ next self.old.program self.old.pc }
         ensures program { self.new.program ≡ self.old.program }
         ensures gas { self.new.gas ≡ self.old.gas }
     {
         self.registers[usize::from(register)] = value;
-        self.go_on(skip);
+        self.go_on(pc, skip);
     }
 
     /// Sets a register where the test holds, and goes to the next instruction.
     #[inline(always)]
     #[tactic(auto, unfolding(crate::specs::Effect::after))]
-    pub(crate) fn move_where(&mut self, holds: bool, register: u8, value: u64, skip: u8)
+    pub(crate) fn move_where(&mut self, holds: bool, register: u8, value: u64, pc: u64, skip: u8)
+        requires here { pc ≡ self.old.pc }
         requires register { register < 13 }
         requires place { self.old.pc < 2 ^ 63 }
         requires skip { skip ≡ blob.skip self.old.program self.old.pc }
         ensures acts { after_of self.new None ≡ after self.old.program (state_of self.old) (Moves holds register value) }
+        ensures next { self.new.pc ≡ next self.old.program self.old.pc }
         ensures program { self.new.program ≡ self.old.program }
         ensures gas { self.new.gas ≡ self.old.gas }
     {
         if holds {
             self.registers[usize::from(register)] = value;
         }
-        self.go_on(skip);
+        self.go_on(pc, skip);
     }
 
     /// Sets a register to the bytes at an address.
@@ -103,7 +109,8 @@ impl Machine {
     {
         match self.memory.load(from, width) {
             Ok(raw) => {
-                self.give(register, widen(op, raw), skip);
+                let pc = self.pc;
+                self.give(register, widen(op, raw), pc, skip);
                 None
             }
             Err(access) => Some(exit_of(access)),
@@ -130,7 +137,8 @@ impl Machine {
     {
         match self.memory.store(to, width, value) {
             Ok(()) => {
-                self.go_on(skip);
+                let pc = self.pc;
+                self.go_on(pc, skip);
                 Ok(None)
             }
             Err(StoreRefusal::Access(access)) => Ok(Some(exit_of(access))),
@@ -143,13 +151,14 @@ impl Machine {
     pub(crate) fn jump(&mut self, target: Option<u64>) -> Went
         ensures landed { after_of self.new (exit_after result) ≡ lands (state_of self.old) (jump_to self.old.program target) }
         ensures done { is_done result ≡ true }
+        ensures next { result ≡ On → self.new.pc ≡ next self.old.program self.old.pc }
         ensures program { self.new.program ≡ self.old.program }
         ensures gas { self.new.gas ≡ self.old.gas }
     {
         match target {
             Some(place) if self.program.is_start(place) => {
                 self.pc = place;
-                Went::On
+                Went::Jumped
             }
             _ => Went::Panics,
         }
@@ -170,26 +179,28 @@ impl Machine {
         }
         let target = self.program.jump_at(u64::from(address) / 2 - 1);
         match self.jump(target) {
-            Went::On => None,
-            _ => Some(Exit::Panic),
+            Went::Panics => Some(Exit::Panic),
+            _ => None,
         }
     }
 
     /// Jumps to a target where the test holds.
     #[inline(always)]
     #[tactic(auto, unfolding(crate::specs::Effect::after))]
-    pub(crate) fn branch(&mut self, taken: bool, target: Option<u64>, skip: u8) -> Went
+    pub(crate) fn branch(&mut self, taken: bool, target: Option<u64>, pc: u64, skip: u8) -> Went
+        requires here { pc ≡ self.old.pc }
         requires place { self.old.pc < 2 ^ 63 }
         requires skip { skip ≡ blob.skip self.old.program self.old.pc }
         ensures acts { after_of self.new (exit_after result) ≡ after self.old.program (state_of self.old) (Branches taken target) }
         ensures done { is_done result ≡ true }
+        ensures next { result ≡ On → self.new.pc ≡ next self.old.program self.old.pc }
         ensures program { self.new.program ≡ self.old.program }
         ensures gas { self.new.gas ≡ self.old.gas }
     {
         if taken {
             return self.jump(target);
         }
-        self.go_on(skip);
+        self.go_on(pc, skip);
         Went::On
     }
 
@@ -232,15 +243,16 @@ impl Machine {
         ensures gas { self.new.gas ≡ self.old.gas }
         ensures err { OnErr result (self.new ≡ self.old) }
     {
+        let pc = self.pc;
         let next = self.heap.next();
         let room = self.heap.end() - next;
         if amount == 0 {
-            self.give(register, next, skip);
+            self.give(register, next, pc, skip);
         } else if amount > room {
-            self.give(register, 0, skip);
+            self.give(register, 0, pc, skip);
         } else {
             self.lift(amount)?;
-            self.give(register, next, skip);
+            self.give(register, next, pc, skip);
         }
         Ok(())
     }

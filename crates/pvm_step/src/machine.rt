@@ -1,17 +1,21 @@
 // A machine that runs a program.
-ghost use Rattle.std.specs.Prelude.{◌≡◌, ◌≤◌, ℕ, None, length, replicate, IfOk, OnErr};
+ghost use Rattle.std.specs.Prelude.{◌≡◌, ◌<◌, ◌≤◌, ◌^◌, ℕ, true, false, None, length, replicate, IfOk, OnErr};
 ghost use Rattle.std.specs.FinMap as fin;
 ghost use Rattle.pvm_isa.specs.declared.op.Op.TheVariants.{Ecalli};
+ghost use Rattle.blob_decode.specs.Program as blob;
 ghost use Rattle.blob_decode.specs.Program.{op_at, next};
-ghost use Rattle.pvm_step.specs.Effect.{effect};
 ghost use Rattle.pvm_step.specs.History.{step, reached, output};
-ghost use Rattle.pvm_step.specs.Machine.{state_of, after_of, moment, exit_in};
+ghost use Rattle.pvm_step.specs.Machine.{state_of, moment, exit_in, exit_after, is_done};
+ghost use Rattle.pvm_step.specs.Named.{on_registers};
+ghost use Rattle.pvm_step.specs.declared.went.Went.TheVariants.{On};
 
 use crate::exit::{Exit, Progress};
 use crate::heap::Heap;
+use crate::went::Went;
 use blob_decode::Program;
 use gas_ledger::Ledger;
 use paged_memory::Memory;
+use pvm_isa::Op;
 use std::alloc::{AllocError, Global};
 use std::marker::Model;
 use std::rc::Rc;
@@ -58,29 +62,40 @@ impl Machine {
         }
     }
 
-    // What the instruction at the pc does; past the code it panics.
+    // The instruction at the pc, where it works on the registers alone and there is gas for it. Else nothing.
     #[inline(always)]
     #[tactic(auto, unfolding(crate::specs::Effect::effect))]
-    fn take_effect(&mut self) -> Result<Option<Exit>, AllocError>
-        ensures effect { IfOk result (λ exit. after_of self.new exit ≡ effect self.old.program (state_of self.old)) }
+    fn attempt(&mut self, op: Op, pc: u64, skip: u8) -> Went
+        requires here { pc ≡ self.old.pc }
+        requires op { op ≡ op_at self.old.program self.old.pc }
+        requires skip { skip ≡ blob.skip self.old.program self.old.pc }
+        requires short { skip ≤ 24 }
+        ensures made { is_done result ≡ true → moment self.new (exit_after result) ≡ step self.old.program self.old.gas (state_of self.old) }
+        ensures next { result ≡ On → self.new.pc ≡ next self.old.program self.old.pc }
+        ensures low { result ≡ On → pc < 2 ^ 63 }
+        ensures same { result ≡ Went.Beyond → self.new ≡ self.old }
+        ensures kind { result ≡ Went.Beyond → 0 < self.old.gas → pc < length self.old.program.code → on_registers op ≡ false }
         ensures program { self.new.program ≡ self.old.program }
-        ensures gas { self.new.gas ≡ self.old.gas }
-        ensures err { OnErr result (self.new ≡ self.old) }
     {
-        if self.pc >= self.program.code().len() as u64 {
-            return Ok(Some(Exit::Panic));
+        let left = self.ledger.left();
+        if left == 0 || pc >= self.program.code().len() as u64 {
+            return Went::Beyond;
         }
-        let op = self.program.op_at(self.pc);
-        let skip = self.program.skip(self.pc);
-        self.act(op, skip)
+        let went = self.act_on_registers(op, pc, skip);
+        if !matches!(went, Went::Beyond) {
+            self.ledger = Ledger::new(left - 1);
+        }
+        went
     }
 
-    /// One instruction, which costs 1 gas; without gas, the exit `OutOfGas`.
-    ///
-    /// # Errors
-    /// Want of memory; the machine is then as before.
-    #[inline]
-    pub fn step(&mut self) -> Result<Option<Exit>, AllocError>
+    // One instruction that is not made on the registers alone.
+    #[inline(never)]
+    #[tactic(auto, unfolding(crate::specs::Effect::effect))]
+    fn step_beyond(&mut self, op: Op, skip: u8) -> Result<Option<Exit>, AllocError>
+        requires op { op ≡ op_at self.old.program self.old.pc }
+        requires skip { skip ≡ blob.skip self.old.program self.old.pc }
+        requires short { skip ≤ 24 }
+        requires kind { 0 < self.old.gas → self.old.pc < length self.old.program.code → on_registers op ≡ false }
         ensures step { IfOk result (λ exit. moment self.new exit ≡ step self.old.program self.old.gas (state_of self.old)) }
         ensures program { self.new.program ≡ self.old.program }
         ensures err { OnErr result (self.new ≡ self.old) }
@@ -88,9 +103,31 @@ impl Machine {
         if self.ledger.left() == 0 {
             return Ok(Some(Exit::OutOfGas));
         }
-        let exit = self.take_effect()?;
+        if self.pc >= self.program.code().len() as u64 {
+            let _paid = self.ledger.charge(1);
+            return Ok(Some(Exit::Panic));
+        }
+        let exit = self.act_beyond(op, skip)?;
         let _paid = self.ledger.charge(1);
         Ok(exit)
+    }
+
+    /// One instruction, which costs 1 gas; without gas, the exit `OutOfGas`.
+    ///
+    /// # Errors
+    /// Want of memory; the machine is then as before.
+    pub fn step(&mut self) -> Result<Option<Exit>, AllocError>
+        ensures step { IfOk result (λ exit. moment self.new exit ≡ step self.old.program self.old.gas (state_of self.old)) }
+        ensures program { self.new.program ≡ self.old.program }
+        ensures err { OnErr result (self.new ≡ self.old) }
+    {
+        let pc = self.pc;
+        let at = self.program.fetch(pc);
+        match self.attempt(at.op, pc, at.skip) {
+            Went::On | Went::Jumped => Ok(None),
+            Went::Panics => Ok(Some(Exit::Panic)),
+            Went::Beyond => self.step_beyond(at.op, at.skip),
+        }
     }
 
     /// Makes so many instructions, or fewer where the run ends before. It pauses exactly where all
@@ -103,9 +140,20 @@ impl Machine {
         ensures program { self.new.program ≡ self.old.program }
         ensures err { OnErr result ((n : ℕ) × (n ≤ fuel) × (moment self.new None ≡ reached n self.old.program self.old.gas (state_of self.old))) }
     {
+        // The pc is kept here too, so that the next instruction need not wait for the store of it.
+        let mut pc = self.pc;
         'steps: for _made in 0..fuel {
-            if let Some(exit) = self.step()? {
-                return Ok(Progress::Ended(exit));
+            let at = self.program.fetch(pc);
+            match self.attempt(at.op, pc, at.skip) {
+                Went::On => pc = pc + 1 + u64::from(at.skip),
+                Went::Jumped => pc = self.pc,
+                Went::Panics => return Ok(Progress::Ended(Exit::Panic)),
+                Went::Beyond => {
+                    if let Some(exit) = self.step_beyond(at.op, at.skip)? {
+                        return Ok(Progress::Ended(exit));
+                    }
+                    pc = self.pc;
+                }
             }
         }
         Ok(Progress::Paused)
@@ -118,8 +166,9 @@ impl Machine {
     {
         // The code is shorter than 2^63.
         let _code = self.program.code();
-        let skip = self.program.skip(self.pc);
-        self.go_on(skip);
+        let pc = self.pc;
+        let skip = self.program.skip(pc);
+        self.go_on(pc, skip);
     }
 
     /// The r8 bytes at r7, where they may all be read; else nothing.

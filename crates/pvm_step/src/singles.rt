@@ -5,6 +5,7 @@ ghost use Rattle.pvm_isa.specs.declared.form.Form.TheVariants.{F2, F3, F5, F6, F
 ghost use Rattle.blob_decode.specs.Program as blob;
 ghost use Rattle.pvm_step.specs.declared.exit.Exit.TheVariants.{Host};
 ghost use Rattle.pvm_step.specs.Effect.{Nothing, Exits, Gives, Jumps, JumpsThrough, GivesAndJumps, GivesAndJumpsThrough, Moves, Grows, after, address, value_in};
+ghost use Rattle.pvm_step.specs.declared.went.Went.TheVariants.{On};
 ghost use Rattle.pvm_step.specs.Machine.{state_of, after_of, exit_after, is_done};
 
 use crate::address::address_from;
@@ -22,17 +23,19 @@ impl Machine {
     /// Nothing.
     #[inline(always)]
     #[tactic(auto, unfolding(crate::specs::Effect::after))]
-    pub(crate) fn fall_through(&mut self, skip: u8) -> Went
+    pub(crate) fn fall_through(&mut self, pc: u64, skip: u8) -> Went
+        requires here { pc ≡ self.old.pc }
         requires within { self.old.pc < length self.old.program.code }
         requires skip { skip ≡ blob.skip self.old.program self.old.pc }
         requires short { skip ≤ 24 }
         ensures acts { after_of self.new (exit_after result) ≡ after self.old.program (state_of self.old) (Nothing) }
+        ensures next { result ≡ On → self.new.pc ≡ blob.next self.old.program self.old.pc }
         ensures done { is_done result ≡ true }
         ensures program { self.new.program ≡ self.old.program }
         ensures gas { self.new.gas ≡ self.old.gas }
     {
         let _code = self.program.code();
-        self.go_on(skip);
+        self.go_on(pc, skip);
         Went::On
     }
 
@@ -53,50 +56,56 @@ impl Machine {
 
     /// An immediate of 64 bits.
     #[inline(never)]
-    pub(crate) fn load_imm_64(&mut self, skip: u8) -> Went
+    pub(crate) fn load_imm_64(&mut self, pc: u64, skip: u8) -> Went
+        requires here { pc ≡ self.old.pc }
         requires within { self.old.pc < length self.old.program.code }
         requires skip { skip ≡ blob.skip self.old.program self.old.pc }
         requires short { skip ≤ 24 }
         ensures acts { after_of self.new (exit_after result) ≡ after self.old.program (state_of self.old) (Gives (arguments F3 self.old.program.code self.old.pc skip).a (arguments F3 self.old.program.code self.old.pc skip).x) }
+        ensures next { result ≡ On → self.new.pc ≡ blob.next self.old.program self.old.pc }
         ensures done { is_done result ≡ true }
         ensures program { self.new.program ≡ self.old.program }
         ensures gas { self.new.gas ≡ self.old.gas }
     {
-        let at = register_and_wide_immediate(self.program.code(), self.pc);
-        self.give(at.a, at.x, skip);
+        let at = register_and_wide_immediate(self.program.code(), pc);
+        self.give(at.a, at.x, pc, skip);
         Went::On
     }
 
     /// An immediate.
     #[inline(never)]
-    pub(crate) fn load_imm(&mut self, skip: u8) -> Went
+    pub(crate) fn load_imm(&mut self, pc: u64, skip: u8) -> Went
+        requires here { pc ≡ self.old.pc }
         requires within { self.old.pc < length self.old.program.code }
         requires skip { skip ≡ blob.skip self.old.program self.old.pc }
         requires short { skip ≤ 24 }
         ensures acts { after_of self.new (exit_after result) ≡ after self.old.program (state_of self.old) (Gives (arguments F6 self.old.program.code self.old.pc skip).a (arguments F6 self.old.program.code self.old.pc skip).x) }
+        ensures next { result ≡ On → self.new.pc ≡ blob.next self.old.program self.old.pc }
         ensures done { is_done result ≡ true }
         ensures program { self.new.program ≡ self.old.program }
         ensures gas { self.new.gas ≡ self.old.gas }
     {
-        let at = register_and_immediate(self.program.code(), self.pc, skip);
-        self.give(at.a, at.x, skip);
+        let at = register_and_immediate(self.program.code(), pc, skip);
+        self.give(at.a, at.x, pc, skip);
         Went::On
     }
 
     /// A register's value.
     #[inline(always)]
-    pub(crate) fn move_reg(&mut self, skip: u8) -> Went
+    pub(crate) fn move_reg(&mut self, pc: u64, skip: u8) -> Went
+        requires here { pc ≡ self.old.pc }
         requires within { self.old.pc < length self.old.program.code }
         requires skip { skip ≡ blob.skip self.old.program self.old.pc }
         requires short { skip ≤ 24 }
         ensures acts { after_of self.new (exit_after result) ≡ after self.old.program (state_of self.old) (Gives (arguments F9 self.old.program.code self.old.pc skip).d (value_in (state_of self.old) (arguments F9 self.old.program.code self.old.pc skip).a)) }
+        ensures next { result ≡ On → self.new.pc ≡ blob.next self.old.program self.old.pc }
         ensures done { is_done result ≡ true }
         ensures program { self.new.program ≡ self.old.program }
         ensures gas { self.new.gas ≡ self.old.gas }
     {
-        let at = two_registers(self.program.code(), self.pc);
+        let at = two_registers(self.program.code(), pc);
         let value = self.value(at.a);
-        self.give(at.d, value, skip);
+        self.give(at.d, value, pc, skip);
         Went::On
     }
 
@@ -119,87 +128,97 @@ impl Machine {
 
     /// An immediate where a register is 0.
     #[inline(never)]
-    pub(crate) fn cmov_iz_imm(&mut self, skip: u8) -> Went
+    pub(crate) fn cmov_iz_imm(&mut self, pc: u64, skip: u8) -> Went
+        requires here { pc ≡ self.old.pc }
         requires within { self.old.pc < length self.old.program.code }
         requires skip { skip ≡ blob.skip self.old.program self.old.pc }
         requires short { skip ≤ 24 }
         ensures acts { after_of self.new (exit_after result) ≡ after self.old.program (state_of self.old) (Moves ((value_in (state_of self.old) (arguments F10 self.old.program.code self.old.pc skip).b) == 0) (arguments F10 self.old.program.code self.old.pc skip).a (arguments F10 self.old.program.code self.old.pc skip).x) }
+        ensures next { result ≡ On → self.new.pc ≡ blob.next self.old.program self.old.pc }
         ensures done { is_done result ≡ true }
         ensures program { self.new.program ≡ self.old.program }
         ensures gas { self.new.gas ≡ self.old.gas }
     {
-        let at = two_registers_and_immediate(self.program.code(), self.pc, skip);
+        let at = two_registers_and_immediate(self.program.code(), pc, skip);
         let holds = self.value(at.b) == 0;
-        self.move_where(holds, at.a, at.x, skip);
+        self.move_where(holds, at.a, at.x, pc, skip);
         Went::On
     }
 
     /// An immediate where a register is not 0.
     #[inline(never)]
-    pub(crate) fn cmov_nz_imm(&mut self, skip: u8) -> Went
+    pub(crate) fn cmov_nz_imm(&mut self, pc: u64, skip: u8) -> Went
+        requires here { pc ≡ self.old.pc }
         requires within { self.old.pc < length self.old.program.code }
         requires skip { skip ≡ blob.skip self.old.program self.old.pc }
         requires short { skip ≤ 24 }
         ensures acts { after_of self.new (exit_after result) ≡ after self.old.program (state_of self.old) (Moves (not ((value_in (state_of self.old) (arguments F10 self.old.program.code self.old.pc skip).b) == 0)) (arguments F10 self.old.program.code self.old.pc skip).a (arguments F10 self.old.program.code self.old.pc skip).x) }
+        ensures next { result ≡ On → self.new.pc ≡ blob.next self.old.program self.old.pc }
         ensures done { is_done result ≡ true }
         ensures program { self.new.program ≡ self.old.program }
         ensures gas { self.new.gas ≡ self.old.gas }
     {
-        let at = two_registers_and_immediate(self.program.code(), self.pc, skip);
+        let at = two_registers_and_immediate(self.program.code(), pc, skip);
         let holds = self.value(at.b) != 0;
-        self.move_where(holds, at.a, at.x, skip);
+        self.move_where(holds, at.a, at.x, pc, skip);
         Went::On
     }
 
     /// A register's value where another is 0.
     #[inline(always)]
-    pub(crate) fn cmov_iz(&mut self, skip: u8) -> Went
+    pub(crate) fn cmov_iz(&mut self, pc: u64, skip: u8) -> Went
+        requires here { pc ≡ self.old.pc }
         requires within { self.old.pc < length self.old.program.code }
         requires skip { skip ≡ blob.skip self.old.program self.old.pc }
         requires short { skip ≤ 24 }
         ensures acts { after_of self.new (exit_after result) ≡ after self.old.program (state_of self.old) (Moves ((value_in (state_of self.old) (arguments F13 self.old.program.code self.old.pc skip).b) == 0) (arguments F13 self.old.program.code self.old.pc skip).d (value_in (state_of self.old) (arguments F13 self.old.program.code self.old.pc skip).a)) }
+        ensures next { result ≡ On → self.new.pc ≡ blob.next self.old.program self.old.pc }
         ensures done { is_done result ≡ true }
         ensures program { self.new.program ≡ self.old.program }
         ensures gas { self.new.gas ≡ self.old.gas }
     {
-        let at = three_registers(self.program.code(), self.pc);
+        let at = three_registers(self.program.code(), pc);
         let holds = self.value(at.b) == 0;
         let value = self.value(at.a);
-        self.move_where(holds, at.d, value, skip);
+        self.move_where(holds, at.d, value, pc, skip);
         Went::On
     }
 
     /// A register's value where another is not 0.
     #[inline(always)]
-    pub(crate) fn cmov_nz(&mut self, skip: u8) -> Went
+    pub(crate) fn cmov_nz(&mut self, pc: u64, skip: u8) -> Went
+        requires here { pc ≡ self.old.pc }
         requires within { self.old.pc < length self.old.program.code }
         requires skip { skip ≡ blob.skip self.old.program self.old.pc }
         requires short { skip ≤ 24 }
         ensures acts { after_of self.new (exit_after result) ≡ after self.old.program (state_of self.old) (Moves (not ((value_in (state_of self.old) (arguments F13 self.old.program.code self.old.pc skip).b) == 0)) (arguments F13 self.old.program.code self.old.pc skip).d (value_in (state_of self.old) (arguments F13 self.old.program.code self.old.pc skip).a)) }
+        ensures next { result ≡ On → self.new.pc ≡ blob.next self.old.program self.old.pc }
         ensures done { is_done result ≡ true }
         ensures program { self.new.program ≡ self.old.program }
         ensures gas { self.new.gas ≡ self.old.gas }
     {
-        let at = three_registers(self.program.code(), self.pc);
+        let at = three_registers(self.program.code(), pc);
         let holds = self.value(at.b) != 0;
         let value = self.value(at.a);
-        self.move_where(holds, at.d, value, skip);
+        self.move_where(holds, at.d, value, pc, skip);
         Went::On
     }
 
     /// A jump.
     #[inline(never)]
     #[tactic(auto, unfolding(crate::specs::Effect::after))]
-    pub(crate) fn jump_on(&mut self, skip: u8) -> Went
+    pub(crate) fn jump_on(&mut self, pc: u64, skip: u8) -> Went
+        requires here { pc ≡ self.old.pc }
         requires within { self.old.pc < length self.old.program.code }
         requires skip { skip ≡ blob.skip self.old.program self.old.pc }
         requires short { skip ≤ 24 }
         ensures acts { after_of self.new (exit_after result) ≡ after self.old.program (state_of self.old) (Jumps (arguments F5 self.old.program.code self.old.pc skip).target) }
+        ensures next { result ≡ On → self.new.pc ≡ blob.next self.old.program self.old.pc }
         ensures done { is_done result ≡ true }
         ensures program { self.new.program ≡ self.old.program }
         ensures gas { self.new.gas ≡ self.old.gas }
     {
-        let at = one_offset(self.program.code(), self.pc, skip);
+        let at = one_offset(self.program.code(), pc, skip);
         self.jump(at.target)
     }
 
@@ -223,16 +242,18 @@ impl Machine {
     /// A jump, after a register got an immediate.
     #[inline(never)]
     #[tactic(auto, unfolding(crate::specs::Effect::after))]
-    pub(crate) fn load_imm_jump(&mut self, skip: u8) -> Went
+    pub(crate) fn load_imm_jump(&mut self, pc: u64, skip: u8) -> Went
+        requires here { pc ≡ self.old.pc }
         requires within { self.old.pc < length self.old.program.code }
         requires skip { skip ≡ blob.skip self.old.program self.old.pc }
         requires short { skip ≤ 24 }
         ensures acts { after_of self.new (exit_after result) ≡ after self.old.program (state_of self.old) (GivesAndJumps (arguments F8 self.old.program.code self.old.pc skip).a (arguments F8 self.old.program.code self.old.pc skip).x (arguments F8 self.old.program.code self.old.pc skip).target) }
+        ensures next { result ≡ On → self.new.pc ≡ blob.next self.old.program self.old.pc }
         ensures done { is_done result ≡ true }
         ensures program { self.new.program ≡ self.old.program }
         ensures gas { self.new.gas ≡ self.old.gas }
     {
-        let at = register_immediate_and_offset(self.program.code(), self.pc, skip);
+        let at = register_immediate_and_offset(self.program.code(), pc, skip);
         let target = at.target;
         self.set(at.a, at.x);
         self.jump(target)

@@ -4,8 +4,10 @@
 /// register, so that the run's loop moves no exit.
 #[derive(Clone, Copy, Debug, PartialEq, Eq)]
 pub enum Went {
-    /// It was done.
+    /// It was done, and the next instruction follows.
     On,
+    /// It was done, and led elsewhere.
+    Jumped,
     /// It was done, and it panics.
     Panics,
     /// Nothing was done: the opcode needs more than the registers.

@@ -1,23 +1,21 @@
-use Rattle.std.proofs.Common.{◌≡◌, None, Some, ap, sym, ◌∙◌, arith}
-use Rattle.pvm_isa.specs.Opcodes.{op_numbered}
-use Rattle.pvm_isa.proofs.Table.{opcode_in, row, row-numbered, numbered-Defined}
-use Rattle.pvm_isa.proofs.opcodes.op_of.Goals.{In-None, In-Some}
+use Rattle.std.proofs.Common.{◌≡◌, ◌≢◌, None, refl, ◌∙◌}
+use Rattle.pvm_isa.specs.Opcodes.{number_of, op_numbered}
+use Rattle.pvm_isa.proofs.Table.{own-numbered, other-unnumbered, numbered-Defined}
+use Rattle.pvm_isa.proofs.opcodes.op_of.Goals.{Then-number_of-byte, Else-number_of-byte}
 use Rattle.pvm_isa.proofs.opcodes.op_of.Goals as goal
 
-none : (c : In-None) → None ≡ op_numbered c.args.byte
-none c = ap opcode_in (sym (ap row (sym c.from.ensures) ∙ c.in-None.is)) ∙ row-numbered c.args.byte (omega arith)
+pub returns-then-number_of-byte-clause-numbered : goal.returns-then-number_of-byte-clause-numbered
+returns-then-number_of-byte-clause-numbered c =
+    let own : number_of c.op_or_trap-op.result ≡ c.args.byte = cc (c.number_of.ensures, c.if-number_of-byte.true) in
+    own-numbered c.args.byte (op_numbered c.args.byte) c.op_or_trap-op.result refl c.op_or_trap-op.ensures own
 
-some : (c : In-Some) → Some c.in-Some.op ≡ op_numbered c.args.byte
-some c = ap opcode_in (sym (ap row (sym c.from.ensures) ∙ c.in-Some.is)) ∙ row-numbered c.args.byte (omega arith)
+none : (c : Else-number_of-byte) → None ≡ op_numbered c.args.byte
+none c =
+    let other : number_of c.op_or_trap-op.result ≢ c.args.byte = λ own. c.if-number_of-byte.false (c.number_of.ensures ∙ own) in
+    other-unnumbered c.args.byte (op_numbered c.args.byte) c.op_or_trap-op.result refl c.op_or_trap-op.ensures other
 
-pub returns-in-None-clause-numbered : goal.returns-in-None-clause-numbered
-returns-in-None-clause-numbered c = none c
+pub returns-else-number_of-byte-clause-numbered : goal.returns-else-number_of-byte-clause-numbered
+returns-else-number_of-byte-clause-numbered c = none c
 
-pub returns-in-None-clause-defined : goal.returns-in-None-clause-defined
-returns-in-None-clause-defined c = numbered-Defined c.args.byte None (none c)
-
-pub returns-in-Some-clause-numbered : goal.returns-in-Some-clause-numbered
-returns-in-Some-clause-numbered c = some c
-
-pub returns-in-Some-clause-defined : goal.returns-in-Some-clause-defined
-returns-in-Some-clause-defined c = numbered-Defined c.args.byte (Some c.in-Some.op) (some c)
+pub returns-else-number_of-byte-clause-defined : goal.returns-else-number_of-byte-clause-defined
+returns-else-number_of-byte-clause-defined c = numbered-Defined c.args.byte None (none c)

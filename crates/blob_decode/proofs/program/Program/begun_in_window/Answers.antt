@@ -16,7 +16,7 @@ returns-in-Some-clause-begins c =
     let bits = ap (λ (x : ℕ). x / 2 ^ ((c.args.place - 25) % 8) % 2 ^ 25) (c.window.ensures ∙ ap (λ (bytes : List ℕ). little_number (take 4 (drop ((c.args.place - 25) / 8) bytes))) c.deref.ensures.value) in
     ap (λ (k : ℕ). mask_bit c.args.self.now (c.args.place - 25 + k)) c.from.ensures
     ∙ ap (λ (p : Program). mask_bit p (c.args.place - 25 + c.in-Some.n)) (sym c.self.view_is)
-    ∙ (begun-window c.self.inside.count c.self.inside.width c.self.inside.table.items c.self.inside.code.items c.self.inside.mask.items c.self.invariant c.args.place c.requires.far within _ c.in-Some.n bits few c.in-Some.ensures).0
+    ∙ (begun-window c.self.inside.count c.self.inside.width c.self.inside.table.items c.self.inside.code.items c.self.inside.mask.items c.self.invariant.0 c.args.place c.requires.far within _ c.in-Some.n bits few c.in-Some.ensures).0
 
 pub returns-in-Some-clause-nearest : goal.returns-in-Some-clause-nearest
 returns-in-Some-clause-nearest c =
@@ -25,7 +25,7 @@ returns-in-Some-clause-nearest c =
     let bits = ap (λ (x : ℕ). x / 2 ^ ((c.args.place - 25) % 8) % 2 ^ 25) (c.window.ensures ∙ ap (λ (bytes : List ℕ). little_number (take 4 (drop ((c.args.place - 25) / 8) bytes))) c.deref.ensures.value) in
     λ j after before.
     ap (λ (p : Program). mask_bit p j) (sym c.self.view_is)
-    ∙ (begun-window c.self.inside.count c.self.inside.width c.self.inside.table.items c.self.inside.code.items c.self.inside.mask.items c.self.invariant c.args.place c.requires.far within _ c.in-Some.n bits few c.in-Some.ensures).1 j (omega (arith, after, c.from.ensures)) before
+    ∙ (begun-window c.self.inside.count c.self.inside.width c.self.inside.table.items c.self.inside.code.items c.self.inside.mask.items c.self.invariant.0 c.args.place c.requires.far within _ c.in-Some.n bits few c.in-Some.ensures).1 j (omega (arith, after, c.from.ensures)) before
 
 pub returns-in-None-clause-none : goal.returns-in-None-clause-none
 returns-in-None-clause-none c =
@@ -33,4 +33,4 @@ returns-in-None-clause-none c =
     let bits = ap (λ (x : ℕ). x / 2 ^ ((c.args.place - 25) % 8) % 2 ^ 25) (c.window.ensures ∙ ap (λ (bytes : List ℕ). little_number (take 4 (drop ((c.args.place - 25) / 8) bytes))) c.deref.ensures.value) in
     λ j before near.
     ap (λ (p : Program). mask_bit p j) (sym c.self.view_is)
-    ∙ begun-nowhere c.self.inside.count c.self.inside.width c.self.inside.table.items c.self.inside.code.items c.self.inside.mask.items c.self.invariant c.args.place c.requires.far within _ bits c.in-None.ensures j before near
+    ∙ begun-nowhere c.self.inside.count c.self.inside.width c.self.inside.table.items c.self.inside.code.items c.self.inside.mask.items c.self.invariant.0 c.args.place c.requires.far within _ bits c.in-None.ensures j before near

@@ -12,8 +12,8 @@ returns-then-place-len c =
 
 pub returns : goal.returns
 returns c =
-    let within : c.args.place / 8 < length c.self.inside.mask.items = omega (arith, c.self.invariant.bits) in
+    let within : c.args.place / 8 < length c.self.inside.mask.items = omega (arith, c.self.invariant.0.bits) in
     let byte : c.index.result.now ≡ get_or c.self.inside.mask.items (c.args.place / 8) 0 = get_or_read c.self.inside.mask.items (c.args.place / 8) c.index.result.now within c.index.ensures 0 in
     ap (λ (b : ℕ). b / 2 ^ (c.args.place % 8) % 2 == 1) byte
-    ∙ sym (mask_bit-kept c.self.inside.count c.self.inside.width c.self.inside.table.items c.self.inside.code.items c.self.inside.mask.items c.args.place c.self.invariant (omega arith))
+    ∙ sym (mask_bit-kept c.self.inside.count c.self.inside.width c.self.inside.table.items c.self.inside.code.items c.self.inside.mask.items c.args.place c.self.invariant.0 (omega arith))
     ∙ ap (λ (p : Program). mask_bit p c.args.place) c.self.view_is

@@ -24,5 +24,5 @@ returns c =
     let kept : Program = program_of c.self.inside.count c.self.inside.width c.self.inside.table.items c.self.inside.code.items c.self.inside.mask.items in
     let spells : Spells program_blob kept c.push_lists.new.out.items =
     subst (λ (e : List ℕ). Spells program_blob kept e) (sym out)
-    (Spells-kept c.self.inside.count c.self.inside.width c.self.inside.table.items c.self.inside.code.items c.self.inside.mask.items c.self.invariant bytes (omega (arith, size))) in
+    (Spells-kept c.self.inside.count c.self.inside.width c.self.inside.table.items c.self.inside.code.items c.self.inside.mask.items c.self.invariant.0 bytes (omega (arith, size))) in
     subst (λ (p : Program). Spells program_blob p c.push_lists.new.out.items) c.self.view_is spells
