@@ -1,7 +1,7 @@
 -- What the kept bytes say of the program.
-use Rattle.std.proofs.Common.{◌≡◌, ℕ, ◌*◌, ◌/◌, ◌%◌, ◌^◌, ◌+◌, ◌-◌, ◌<◌, ◌≤◌, zero, suc, true, false, Bool, List, length, take, drop, get_or, slice_get, nat_lt, Some, None, Ok, Err, Result, arith, refl, ap, sym, subst, ◌∙◌}
-use Rattle.std.specs.Prelude.{◌==◌}
-use Rattle.std.proofs.lemmas.Bool.{le-ltb}
+use Rattle.std.proofs.Common.{◌≡◌, ℕ, ◌*◌, ◌/◌, ◌%◌, ◌^◌, ◌+◌, ◌-◌, ◌<◌, ◌≤◌, zero, suc, true, false, Bool, List, length, take, drop, get_or, slice_get, nat_lt, Option, Some, None, Ok, Err, Result, inl, inr, arith, refl, ap, sym, subst, ◌∙◌}
+use Rattle.std.specs.Prelude.{◌==◌, if◌then◌else◌, is_some, unwrap_or}
+use Rattle.std.proofs.lemmas.Bool.{cases_lt, le-ltb, lt-ltb}
 use Rattle.std.proofs.lemmas.List.{get_or_past}
 use Rattle.jam_codec.specs.Spelling.{little_endian, little_number, numbers, binary_number, binary_digits, bytes_for, packed}
 use Rattle.jam_codec.specs.Reading.{Reading, Reads, bytes_at, past}
@@ -9,7 +9,10 @@ use Rattle.jam_codec.specs.Format.{numbers_of}
 use Rattle.jam_codec.specs.Laws.{AreBytes}
 use Rattle.jam_codec.proofs.Bits.{length-binary_digits, length-packed, binary_digits-of_bytes, binary_number-below, binary_number-fits}
 use Rattle.jam_codec.proofs.Numbers.{numbers-get, little_number-little_endian, items_at-numbers_front, items_at-missing}
-use Rattle.blob_decode.specs.Program.{mask_bit, skip}
+use Rattle.pvm_isa.specs.declared.op.Op.{Op}
+use Rattle.pvm_isa.specs.declared.op.Op.TheVariants.{Trap}
+use Rattle.pvm_isa.specs.Opcodes.{op_numbered}
+use Rattle.blob_decode.specs.Program.{Program, mask_bit, code_byte, op_at, skip}
 use Rattle.blob_decode.specs.Kept.{program_of, Keeps}
 use Rattle.blob_decode.proofs.Starts.{gap-here}
 
@@ -79,3 +82,22 @@ pub numbers-missing : (width n left w begin place : ℕ) (r : Reading) → lengt
 numbers-missing width n left w begin place r short many same front e =
     let at : r.place + length r.rest / width * width ≡ place = sym (e ∙ (rw (many, same, front) refl)) in
     items_at-missing width n None r short ∙ ap (λ (k : ℕ). Err k) at
+
+-- the opcode that acts at a place within the code
+some_or : (found : Option Op) → unwrap_or found Trap ≡ (if is_some found then unwrap_or found Trap else Trap)
+some_or None = refl
+some_or (Some op) = refl
+
+pub op_at-begun : (p : Program) (i byte : ℕ) → i < length p.code → mask_bit p i ≡ true → byte ≡ code_byte p i → unwrap_or (op_numbered byte) Trap ≡ op_at p i
+unfolding op_at
+op_at-begun p i byte within begins is =
+    let inside : nat_lt i (length p.code) ≡ true = lt-ltb i (length p.code) within in
+    rw (inside, begins, is) (some_or (op_numbered (code_byte p i)))
+
+pub op_at-none : (p : Program) (i : ℕ) → mask_bit p i ≡ false → Trap ≡ op_at p i
+unfolding op_at
+op_at-none p i none =
+    elim (cases_lt i (length p.code)) [
+      | inl less ↦ let inside : nat_lt i (length p.code) ≡ true = lt-ltb i (length p.code) less in rw (inside, none) refl
+      | inr more ↦ let outside : nat_lt i (length p.code) ≡ false = le-ltb i (length p.code) more in rw outside refl
+    ]

@@ -3,14 +3,16 @@ ghost use Rattle.std.specs.Prelude.{◌≡◌, ◌<◌, ◌≤◌, ◌+◌, ◌/
 ghost use Rattle.jam_codec.specs.Spelling.{little_number, bytes_for};
 ghost use Rattle.jam_codec.specs.Format.{Spells};
 ghost use Rattle.blob_decode.specs.declared.program.ProgramRefusal.TheVariants.{NoMemory, NotProgram};
+ghost use Rattle.pvm_isa.specs.declared.op.Op.TheVariants.{Trap};
 ghost use Rattle.pvm_isa.specs.Opcodes.{op_numbered};
+ghost use Rattle.pvm_isa.specs.Arguments.{IsWindow};
 ghost use Rattle.blob_decode.specs.Refusal.{IsPlaced};
 ghost use Rattle.blob_decode.specs.Kept.{FirstSet, LastSet, AreMarks};
 ghost use Rattle.blob_decode.specs.Program.{program_blob, mask_bit, code_byte, op_begins, op_at, gap, skip, is_start, ends_block, ends_before, some_below};
 
 use crate::parts::{parts_of, push_lists};
 use jam_codec::{Malformed, number_of, push_fixed, push_natural};
-use pvm_isa::{Op, is_terminator, op_of, op_or_trap};
+use pvm_isa::{Op, code_window, is_terminator, op_of, op_or_trap, whole_window};
 use std::alloc::{AllocError, Global};
 use std::marker::Model;
 use thiserror::Error;
@@ -51,6 +53,8 @@ pub struct Program {
     mask: Vec<u8>,
     // The mask with the bit after its last one set, and more bytes, so that a window begins at each place.
     marks: Vec<u8>,
+    // How many places have eight bytes of code from them on.
+    windows: u64,
 }
 
 /// What stands at a place of the code.
@@ -60,18 +64,20 @@ pub struct Fetched {
     pub op: Op,
     /// How many bytes of arguments it has, at most 24.
     pub skip: u8,
+    /// The number in the eight bytes of the code from there on. Past the code they are 0.
+    pub bytes: u64,
 }
 
 impl Model for Program {
     ghost use Rattle.blob_decode.specs.Program.{Program};
-    ghost use Rattle.std.specs.Prelude.{length};
+    ghost use Rattle.std.specs.Prelude.{◌≡◌, ◌-◌, length};
     ghost use Rattle.blob_decode.specs.Kept.{program_of, Keeps, AreMarks};
 
     ghost Value = { Program };
 
     ghost view = { λ p. program_of p.count p.width p.table.items p.code.items p.mask.items };
 
-    ghost invariant = { λ p. Keeps p.count p.width p.table.items p.code.items p.mask.items × AreMarks (length p.code.items) p.mask.items p.marks.items };
+    ghost invariant = { λ p. Keeps p.count p.width p.table.items p.code.items p.mask.items × AreMarks (length p.code.items) p.mask.items p.marks.items × (p.windows ≡ length p.code.items - 7) };
 }
 
 // Four bytes of a mask as a number.
@@ -129,6 +135,15 @@ fn last_set(bits: u32) -> Option<u32>
     Some(31 - bits.leading_zeros())
 }
 
+// What acts where no instruction begins.
+#[cold]
+#[inline(never)]
+fn none_begins() -> Op
+    ensures { result ≡ Trap }
+{
+    Op::Trap
+}
+
 impl Program {
     /// The program that a blob spells: all of its bytes, and no others after them.
     ///
@@ -152,6 +167,7 @@ impl Program {
             code,
             mask,
             marks,
+            windows: (parts.code.len() as u64).saturating_sub(7),
         })
     }
 
@@ -234,29 +250,62 @@ impl Program {
         zeros_before(self.marks_from(pc) >> 1)
     }
 
-    /// The opcode and the skip of the instruction at the place, by one look at the mask.
+    // What stands at a place within the code, of which these are the bytes.
     #[inline]
     #[tactic(auto, unfolding(crate::specs::Program::op_at))]
-    pub fn fetch(&self, pc: u64) -> Fetched
-        ensures op { result.op ≡ op_at self.now pc }
-        ensures skip { result.skip ≡ skip self.now pc }
+    fn found(&self, place: u64, bytes: u64) -> Fetched
+        requires within { place < length self.now.code }
+        requires window { IsWindow self.now.code place bytes }
+        ensures op { result.op ≡ op_at self.now place }
+        ensures skip { result.skip ≡ skip self.now place }
         ensures most { result.skip ≤ 24 }
+        ensures bytes { result.bytes ≡ bytes }
     {
-        if pc >= self.code.len() as u64 {
-            return Fetched {
-                op: Op::Trap,
-                skip: 0,
-            };
-        }
-        let marks = self.marks_from(pc);
-        let skip = zeros_before(marks >> 1);
-        if marks % 2 == 0 {
-            return Fetched { op: Op::Trap, skip };
-        }
+        let marks = self.marks_from(place);
+        let op = if marks % 2 == 1 {
+            op_or_trap((bytes % 256) as u8)
+        } else {
+            none_begins()
+        };
         Fetched {
-            op: op_or_trap(self.code[pc as usize]),
-            skip,
+            op,
+            skip: zeros_before(marks >> 1),
+            bytes,
         }
+    }
+
+    // What stands at a place, where the code ends within eight bytes.
+    #[cold]
+    #[inline(never)]
+    fn fetch_near_end(&self, pc: u64) -> Option<Fetched>
+        ensures past { IfNone result (length self.now.code ≤ pc) }
+        ensures within { IfSome result (λ _. pc < length self.now.code) }
+        ensures op { IfSome result (λ found. found.op ≡ op_at self.now pc) }
+        ensures skip { IfSome result (λ found. found.skip ≡ skip self.now pc) }
+        ensures most { IfSome result (λ found. found.skip ≤ 24) }
+        ensures bytes { IfSome result (λ found. IsWindow self.now.code pc found.bytes) }
+    {
+        let code = self.code();
+        if pc >= code.len() as u64 {
+            return None;
+        }
+        Some(self.found(pc, code_window(code, pc)))
+    }
+
+    /// What stands at the place, by one look at the mask and one at the code; none past the code.
+    #[inline]
+    pub fn fetch(&self, pc: u64) -> Option<Fetched>
+        ensures past { IfNone result (length self.now.code ≤ pc) }
+        ensures within { IfSome result (λ _. pc < length self.now.code) }
+        ensures op { IfSome result (λ found. found.op ≡ op_at self.now pc) }
+        ensures skip { IfSome result (λ found. found.skip ≡ skip self.now pc) }
+        ensures most { IfSome result (λ found. found.skip ≤ 24) }
+        ensures bytes { IfSome result (λ found. IsWindow self.now.code pc found.bytes) }
+    {
+        if pc < self.windows {
+            return Some(self.found(pc, whole_window(self.code(), pc)));
+        }
+        self.fetch_near_end(pc)
     }
 
     // The nearest place before this one at which an instruction begins, at most so many before.

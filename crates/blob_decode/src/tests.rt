@@ -23,6 +23,24 @@ fn a_program_is_read(rt: HostRuntime) -> Result<(), Fail> {
         (10, true, Op::Trap, 0, false),
         (u64::MAX, true, Op::Trap, 0, false),
     ];
+    let bytes = [
+        (0, Some(0xff00_0000_332a_0733)),
+        (1, Some(0x32ff_0000_0033_2a07)),
+        (2, Some(0x0032_ff00_0000_332a)),
+        (3, Some(0x0000_32ff_0000_0033)),
+        (8, Some(0x32)),
+        (9, Some(0)),
+        (10, None),
+        (u64::MAX, None),
+    ];
+    for (place, bytes) in bytes {
+        let wanted = bytes.map(|bytes| Fetched {
+            op: program.op_at(place),
+            skip: program.skip(place),
+            bytes,
+        });
+        assert_eq!(rt; program.fetch(place), wanted, "fetched at {place}");
+    }
     for (place, begins, op, skip, starts) in places {
         assert_eq!(rt; program.mask_at(place), begins, "mask at {place}");
         assert_eq!(rt; program.op_at(place), op, "opcode at {place}");

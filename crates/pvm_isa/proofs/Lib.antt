@@ -2,3 +2,4 @@ pub mod Lookups
 pub mod Table
 pub mod Numbers
 pub mod Registers
+pub mod WindowLaws

@@ -15,7 +15,7 @@ use mir.Val.{of_z, to_z, SFits}
 use Rattle.pvm_isa.specs.Arguments.{little_number, number_at, sign_extended}
 
 -- the first byte, and those after it
-number_at-step : (xs : List ℕ) (i j n : ℕ) → j ≡ i + 1 → number_at xs i (suc n) ≡ get_or xs i 0 + 256 * number_at xs j n
+pub number_at-step : (xs : List ℕ) (i j n : ℕ) → j ≡ i + 1 → number_at xs i (suc n) ≡ get_or xs i 0 + 256 * number_at xs j n
 number_at-step xs i j n after = elim (cases_lt i (length xs)) [
   | inl within ↦
       let suc_place : suc i ≡ j = omega arith in
@@ -132,8 +132,8 @@ few_bytes (suc (suc (suc zero))) few = refl
 few_bytes (suc (suc (suc (suc zero)))) few = refl
 few_bytes (suc (suc (suc (suc (suc more))))) few = absurd (omega arith)
 
--- a few bytes of eight that were read as one number
-pub few_of_eight : (code : List ℕ) (place n : ℕ) → n ≤ 4 → ((k : ℕ) → get_or code k 0 < 256) → number_at code place 8 % 2 ^ (8 * n) ≡ number_at code place n
-few_of_eight code place n few bytes =
-    ap (λ (k : ℕ). number_at code place 8 % k) (sym (few_bytes n few))
-    ∙ sym (first-few n 8 (drop place code) (omega arith) (λ k. omega (arith, get_or-drop place code k 0, bytes (place + k))))
+-- a few bytes of some that were read as one number
+pub few_of : (many : ℕ) (code : List ℕ) (place n : ℕ) → n ≤ 4 → n ≤ many → ((k : ℕ) → get_or code k 0 < 256) → number_at code place many % 2 ^ (8 * n) ≡ number_at code place n
+few_of many code place n few less bytes =
+    ap (λ (k : ℕ). number_at code place many % k) (sym (few_bytes n few))
+    ∙ sym (first-few n many (drop place code) less (λ k. omega (arith, get_or-drop place code k 0, bytes (place + k))))

@@ -1,5 +1,5 @@
 -- The arguments of an instruction, by its form (Gray Paper 0.7.0, appendix A; the numbers of the forms are this project's own).
-use Rattle.std.specs.Prelude.{ℕ, ◌+◌, ◌-◌, ◌*◌, ◌/◌, ◌%◌, ◌^◌, min, nat_lt, nat_le, List, [], ◌∷◌, take, drop, get_or, if◌then◌else◌, Option, Some, None}
+use Rattle.std.specs.Prelude.{◌≡◌, ◌<◌, ℕ, ◌+◌, ◌-◌, ◌*◌, ◌/◌, ◌%◌, ◌^◌, min, nat_lt, nat_le, List, [], ◌∷◌, take, drop, get_or, if◌then◌else◌, Option, Some, None}
 use Rattle.pvm_isa.specs.declared.arguments.Args.{Args}
 use Rattle.pvm_isa.specs.declared.form.Form.{Form}
 use Rattle.pvm_isa.specs.declared.form.Form.TheVariants.{F1, F2, F3, F4, F5, F6, F7, F8, F9, F10, F11, F12, F13}
@@ -12,6 +12,11 @@ little_number (b ∷ bs) = b + 256 * little_number bs
 -- the number in the n bytes of the code at a place; past the code they are 0
 abbrev pub number_at : List ℕ → ℕ → ℕ → ℕ
 number_at code place n = little_number (take n (drop place code))
+
+-- a number is that of the eight bytes of a code at a place
+pub record IsWindow (code : List ℕ) (place bytes : ℕ) : Type 0 where
+  pub number : bytes ≡ number_at code place 8
+  pub small : (k : ℕ) → get_or code k 0 < 256
 
 -- a number of n bytes with its sign, as one of 64 bits; of no bytes it is 0
 abbrev pub sign_extended : ℕ → ℕ → ℕ

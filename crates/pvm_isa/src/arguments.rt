@@ -26,7 +26,8 @@ pub struct Args {
     pub target: Option<u64>,
 }
 
-const NONE: Args = Args {
+/// No arguments.
+pub const NONE: Args = Args {
     a: 0,
     b: 0,
     d: 0,
@@ -73,9 +74,9 @@ fn immediate_after_registers(code: &[u8], pc: u64, skip: u8) -> u64
     immediate(code, pc + 2, skip.saturating_sub(1).min(4))
 }
 
-// The length of X that three bits tell.
+/// The length of X that three bits tell.
 #[inline]
-fn first_length(bits: u8) -> u8
+pub fn first_length(bits: u8) -> u8
     ensures value { result ≡ short (bits % 8) }
     ensures few { result ≤ 4 }
 {

@@ -10,9 +10,9 @@ pub fn byte_at(code: &[u8], place: u64) -> u8
     code.get(place as usize).copied().unwrap_or(0)
 }
 
-// The number in eight bytes of the code, in one load.
+/// The number in eight bytes of the code, in one load.
 #[inline]
-fn eight_at(code: &[u8], from: usize) -> u64
+pub fn eight_at(code: &[u8], from: usize) -> u64
     requires { from + 8 ≤ length code.now }
     ensures { result ≡ number_at code.now from 8 }
 {
@@ -46,6 +46,7 @@ fn eight_one_by_one(code: &[u8], place: u64) -> u64
 }
 
 // The same where the code ends before the eighth: of its last eight bytes, those before the place are shifted out.
+#[cold]
 #[inline(never)]
 fn eight_near_end(code: &[u8], place: u64) -> u64
     requires near { length code.now < place + 8 }
@@ -73,9 +74,9 @@ pub fn eight_bytes(code: &[u8], place: u64) -> u64
     eight_near_end(code, place)
 }
 
-// The number of the lowest bytes of a number, with their sign.
+/// The number of the lowest bytes of a number, with their sign.
 #[inline]
-fn with_sign(number: u64, size: u8) -> u64
+pub fn with_sign(number: u64, size: u8) -> u64
     requires { size ≤ 4 }
     ensures { result ≡ sign_extended size (number % 2 ^ (8 * size)) }
 {

@@ -7,6 +7,7 @@ mod form;
 mod laws;
 mod op;
 mod opcodes;
+mod windows;
 
 pub use arguments::{
     Args, args_of, no_arguments, one_immediate, one_offset, register_and_immediate,
@@ -18,6 +19,10 @@ pub use form::Form;
 pub use laws::opcode_laws;
 pub use op::Op;
 pub use opcodes::{form_of, is_terminator, name_of, number_of, op_named, op_of, op_or_trap};
+pub use windows::{
+    code_window, register_and_immediate_in, register_immediate_and_offset_in, three_registers_in,
+    two_registers_and_immediate_in, two_registers_and_offset_in, two_registers_in, whole_window,
+};
 
 #[cfg(test)]
 mod tests;

@@ -264,7 +264,7 @@ fn arguments_stand_where_their_form_says(rt: HostRuntime) {
         (Op::Add64, b"\xc8\x0f\x0c", 0, 2, (12, 0, 12), 0, 0, None),
     ];
     for (op, code, pc, skip, (a, b, d), x, y, target) in table {
-        assert!(rt; pc < code.len() as u64 && skip <= 24);
+        assert!(rt; pc < 16 && pc < code.len() as u64 && skip <= 24);
         let args = Args {
             a,
             b,
@@ -279,5 +279,16 @@ fn arguments_stand_where_their_form_says(rt: HostRuntime) {
             "{} at {pc}",
             name_of(op)
         );
+        let bytes = code_window(code, pc);
+        let by_window = match form_of(op) {
+            Form::F6 => register_and_immediate_in(bytes, skip),
+            Form::F8 => register_immediate_and_offset_in(code, bytes, pc, skip),
+            Form::F9 => two_registers_in(bytes),
+            Form::F10 => two_registers_and_immediate_in(bytes, skip),
+            Form::F11 => two_registers_and_offset_in(bytes, pc, skip),
+            Form::F13 => three_registers_in(bytes),
+            _ => args,
+        };
+        assert_eq!(rt; by_window, args, "{} in a window", name_of(op));
     }
 }

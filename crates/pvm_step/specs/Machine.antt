@@ -1,7 +1,9 @@
 -- The machine of the code as the definitions see it.
-use Rattle.std.specs.Prelude.{◌≡◌, ℕ, ◌≤◌, ◌⊎◌, ◌^◌, List, Bool, true, false, Option, Some, None, refl}
+use Rattle.std.specs.Prelude.{◌≡◌, ℕ, ◌-◌, ◌<◌, ◌≤◌, length, ◌⊎◌, ◌^◌, List, Bool, true, false, Option, Some, None, refl}
 use Rattle.std.specs.Coded.{Coded, code_by, coded×, coded_ℕ, coded_bool, coded_list}
-use Rattle.blob_decode.specs.Program.{Program}
+use Rattle.pvm_isa.specs.Arguments.{IsWindow}
+use Rattle.blob_decode.specs.Program.{Program, next, skip}
+use Rattle.pvm_step.specs.declared.at.At.{At}
 use Rattle.paged_memory.specs.PageMap.{Memory}
 use Rattle.paged_memory.specs.Codes.{memory_code}
 use Rattle.pvm_step.specs.declared.exit.Exit.{Exit}
@@ -22,6 +24,15 @@ pub record Machine : Type 0 where
   pub heap : Heap
   pub gas : ℕ
 
+-- this is where the machine stands, within the code, and what is read there
+pub record IsAt (at : At) (m : Machine) : Type 0 where
+  pub here : at.pc ≡ m.pc
+  pub within : m.pc < length m.program.code
+  pub next : at.next ≡ next m.program m.pc
+  pub skip : at.skip ≡ skip m.program m.pc
+  pub short : at.skip ≤ 24
+  pub window : IsWindow m.program.code m.pc at.bytes
+
 abbrev pub state_of : Machine → State
 state_of m = record { pc = m.pc; registers = m.registers; memory = m.memory; heap = m.heap }
 
@@ -30,6 +41,10 @@ after_of m exit = record { state = state_of m; exit = exit }
 
 abbrev pub moment : Machine → Option Exit → Moment
 moment m exit = record { state = state_of m; gas = m.gas; exit = exit }
+
+-- the same when gas is taken for the instructions made
+abbrev pub paid : Machine → ℕ → Option Exit → Moment
+paid m made exit = record { state = state_of m; gas = m.gas - made; exit = exit }
 
 -- the exit of a run, if it ended
 abbrev pub exit_in : Progress → Option Exit

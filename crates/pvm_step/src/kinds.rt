@@ -1,7 +1,7 @@
 // The kinds of effects, over values that are read already.
 ghost use Rattle.std.specs.Prelude.{◌≡◌, ◌<◌, ◌≤◌, ◌+◌, ◌^◌, IsTrue, true, None, set, IfOk, OnOk, OnErr};
 ghost use Rattle.blob_decode.specs.Program as blob;
-ghost use Rattle.blob_decode.specs.Program.{next, jump_to, jump_through};
+ghost use Rattle.blob_decode.specs.Program.{jump_to, jump_through};
 ghost use Rattle.paged_memory.specs.PageMap.{is_width};
 ghost use Rattle.pvm_alu.specs.Alu as alu;
 ghost use Rattle.pvm_step.specs.Effect.{Gives, Loads, Stores, Branches, Moves, Grows, after, lands, grown, value_in, exit_of};
@@ -39,51 +39,55 @@ impl Machine {
         self.registers[usize::from(register)]
     }
 
+    /// The place of the next instruction.
+    #[inline(always)]
+    pub(crate) fn next(&self, skip: u8) -> u64
+        requires place { self.now.pc < 2 ^ 63 }
+        requires skip { skip ≡ blob.skip self.now.program self.now.pc }
+        ensures { result ≡ blob.next self.now.program self.now.pc }
+    {
+        self.pc + 1 + u64::from(skip)
+    }
+
     /// Goes to the next instruction.
     #[inline(always)]
-    pub(crate) fn go_on(&mut self, pc: u64, skip: u8)
-        requires here { pc ≡ self.old.pc }
-        requires place { self.old.pc < 2 ^ 63 }
-        requires skip { skip ≡ blob.skip self.old.program self.old.pc }
-        ensures { self.new ≡ record self.old { pc = next self.old.program self.old.pc } }
+    pub(crate) fn go_on(&mut self, next: u64)
+        requires next { next ≡ blob.next self.old.program self.old.pc }
+        ensures { self.new ≡ record self.old { pc = blob.next self.old.program self.old.pc } }
     {
-        self.pc = pc + 1 + u64::from(skip);
+        self.pc = next;
     }
 
     /// Sets a register, and goes to the next instruction.
     #[inline(always)]
     #[tactic(auto, unfolding(crate::specs::Effect::after))]
-    pub(crate) fn give(&mut self, register: u8, value: u64, pc: u64, skip: u8)
-        requires here { pc ≡ self.old.pc }
+    pub(crate) fn give(&mut self, register: u8, value: u64, next: u64)
         requires register { register < 13 }
-        requires place { self.old.pc < 2 ^ 63 }
-        requires skip { skip ≡ blob.skip self.old.program self.old.pc }
+        requires next { next ≡ blob.next self.old.program self.old.pc }
         ensures acts { after_of self.new None ≡ after self.old.program (state_of self.old) (Gives register value) }
-        ensures next { self.new.pc ≡ next self.old.program self.old.pc }
+        ensures next { self.new.pc ≡ blob.next self.old.program self.old.pc }
         ensures program { self.new.program ≡ self.old.program }
         ensures gas { self.new.gas ≡ self.old.gas }
     {
         self.registers[usize::from(register)] = value;
-        self.go_on(pc, skip);
+        self.go_on(next);
     }
 
     /// Sets a register where the test holds, and goes to the next instruction.
     #[inline(always)]
     #[tactic(auto, unfolding(crate::specs::Effect::after))]
-    pub(crate) fn move_where(&mut self, holds: bool, register: u8, value: u64, pc: u64, skip: u8)
-        requires here { pc ≡ self.old.pc }
+    pub(crate) fn move_where(&mut self, holds: bool, register: u8, value: u64, next: u64)
         requires register { register < 13 }
-        requires place { self.old.pc < 2 ^ 63 }
-        requires skip { skip ≡ blob.skip self.old.program self.old.pc }
+        requires next { next ≡ blob.next self.old.program self.old.pc }
         ensures acts { after_of self.new None ≡ after self.old.program (state_of self.old) (Moves holds register value) }
-        ensures next { self.new.pc ≡ next self.old.program self.old.pc }
+        ensures next { self.new.pc ≡ blob.next self.old.program self.old.pc }
         ensures program { self.new.program ≡ self.old.program }
         ensures gas { self.new.gas ≡ self.old.gas }
     {
         if holds {
             self.registers[usize::from(register)] = value;
         }
-        self.go_on(pc, skip);
+        self.go_on(next);
     }
 
     /// Sets a register to the bytes at an address.
@@ -109,8 +113,8 @@ impl Machine {
     {
         match self.memory.load(from, width) {
             Ok(raw) => {
-                let pc = self.pc;
-                self.give(register, widen(op, raw), pc, skip);
+                let next = self.next(skip);
+                self.give(register, widen(op, raw), next);
                 None
             }
             Err(access) => Some(exit_of(access)),
@@ -137,8 +141,8 @@ impl Machine {
     {
         match self.memory.store(to, width, value) {
             Ok(()) => {
-                let pc = self.pc;
-                self.go_on(pc, skip);
+                let next = self.next(skip);
+                self.go_on(next);
                 Ok(None)
             }
             Err(StoreRefusal::Access(access)) => Ok(Some(exit_of(access))),
@@ -151,7 +155,7 @@ impl Machine {
     pub(crate) fn jump(&mut self, target: Option<u64>) -> Went
         ensures landed { after_of self.new (exit_after result) ≡ lands (state_of self.old) (jump_to self.old.program target) }
         ensures done { is_done result ≡ true }
-        ensures next { result ≡ On → self.new.pc ≡ next self.old.program self.old.pc }
+        ensures next { result ≡ On → self.new.pc ≡ blob.next self.old.program self.old.pc }
         ensures program { self.new.program ≡ self.old.program }
         ensures gas { self.new.gas ≡ self.old.gas }
     {
@@ -187,20 +191,18 @@ impl Machine {
     /// Jumps to a target where the test holds.
     #[inline(always)]
     #[tactic(auto, unfolding(crate::specs::Effect::after))]
-    pub(crate) fn branch(&mut self, taken: bool, target: Option<u64>, pc: u64, skip: u8) -> Went
-        requires here { pc ≡ self.old.pc }
-        requires place { self.old.pc < 2 ^ 63 }
-        requires skip { skip ≡ blob.skip self.old.program self.old.pc }
+    pub(crate) fn branch(&mut self, taken: bool, target: Option<u64>, next: u64) -> Went
+        requires next { next ≡ blob.next self.old.program self.old.pc }
         ensures acts { after_of self.new (exit_after result) ≡ after self.old.program (state_of self.old) (Branches taken target) }
         ensures done { is_done result ≡ true }
-        ensures next { result ≡ On → self.new.pc ≡ next self.old.program self.old.pc }
+        ensures next { result ≡ On → self.new.pc ≡ blob.next self.old.program self.old.pc }
         ensures program { self.new.program ≡ self.old.program }
         ensures gas { self.new.gas ≡ self.old.gas }
     {
         if taken {
             return self.jump(target);
         }
-        self.go_on(pc, skip);
+        self.go_on(next);
         Went::On
     }
 
@@ -243,16 +245,16 @@ impl Machine {
         ensures gas { self.new.gas ≡ self.old.gas }
         ensures err { OnErr result (self.new ≡ self.old) }
     {
-        let pc = self.pc;
-        let next = self.heap.next();
-        let room = self.heap.end() - next;
+        let next = self.next(skip);
+        let from = self.heap.next();
+        let room = self.heap.end() - from;
         if amount == 0 {
-            self.give(register, next, pc, skip);
+            self.give(register, from, next);
         } else if amount > room {
-            self.give(register, 0, pc, skip);
+            self.give(register, 0, next);
         } else {
             self.lift(amount)?;
-            self.give(register, next, pc, skip);
+            self.give(register, from, next);
         }
         Ok(())
     }

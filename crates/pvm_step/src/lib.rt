@@ -3,6 +3,7 @@
 
 mod act;
 mod address;
+mod at;
 mod exit;
 mod families;
 mod heap;

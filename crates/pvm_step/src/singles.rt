@@ -6,16 +6,17 @@ ghost use Rattle.blob_decode.specs.Program as blob;
 ghost use Rattle.pvm_step.specs.declared.exit.Exit.TheVariants.{Host};
 ghost use Rattle.pvm_step.specs.Effect.{Nothing, Exits, Gives, Jumps, JumpsThrough, GivesAndJumps, GivesAndJumpsThrough, Moves, Grows, after, address, value_in};
 ghost use Rattle.pvm_step.specs.declared.went.Went.TheVariants.{On};
-ghost use Rattle.pvm_step.specs.Machine.{state_of, after_of, exit_after, is_done};
+ghost use Rattle.pvm_step.specs.Machine.{IsAt, state_of, after_of, exit_after, is_done};
 
 use crate::address::address_from;
+use crate::at::At;
 use crate::exit::Exit;
 use crate::machine::Machine;
 use crate::went::Went;
 use pvm_isa::{
     one_immediate, one_offset, register_and_immediate, register_and_wide_immediate,
-    register_immediate_and_offset, three_registers, two_registers, two_registers_and_immediate,
-    two_registers_and_two_immediates,
+    register_immediate_and_offset, three_registers_in, two_registers, two_registers_and_immediate,
+    two_registers_and_two_immediates, two_registers_in,
 };
 use std::alloc::AllocError;
 
@@ -23,11 +24,8 @@ impl Machine {
     /// Nothing.
     #[inline(always)]
     #[tactic(auto, unfolding(crate::specs::Effect::after))]
-    pub(crate) fn fall_through(&mut self, pc: u64, skip: u8) -> Went
-        requires here { pc ≡ self.old.pc }
-        requires within { self.old.pc < length self.old.program.code }
-        requires skip { skip ≡ blob.skip self.old.program self.old.pc }
-        requires short { skip ≤ 24 }
+    pub(crate) fn fall_through(&mut self, at: At) -> Went
+        requires at { IsAt at self.old }
         ensures acts { after_of self.new (exit_after result) ≡ after self.old.program (state_of self.old) (Nothing) }
         ensures next { result ≡ On → self.new.pc ≡ blob.next self.old.program self.old.pc }
         ensures done { is_done result ≡ true }
@@ -35,7 +33,7 @@ impl Machine {
         ensures gas { self.new.gas ≡ self.old.gas }
     {
         let _code = self.program.code();
-        self.go_on(pc, skip);
+        self.go_on(at.next);
         Went::On
     }
 
@@ -67,8 +65,9 @@ impl Machine {
         ensures program { self.new.program ≡ self.old.program }
         ensures gas { self.new.gas ≡ self.old.gas }
     {
-        let at = register_and_wide_immediate(self.program.code(), pc);
-        self.give(at.a, at.x, pc, skip);
+        let args = register_and_wide_immediate(self.program.code(), pc);
+        let next = self.next(skip);
+        self.give(args.a, args.x, next);
         Went::On
     }
 
@@ -85,27 +84,25 @@ impl Machine {
         ensures program { self.new.program ≡ self.old.program }
         ensures gas { self.new.gas ≡ self.old.gas }
     {
-        let at = register_and_immediate(self.program.code(), pc, skip);
-        self.give(at.a, at.x, pc, skip);
+        let args = register_and_immediate(self.program.code(), pc, skip);
+        let next = self.next(skip);
+        self.give(args.a, args.x, next);
         Went::On
     }
 
     /// A register's value.
     #[inline(always)]
-    pub(crate) fn move_reg(&mut self, pc: u64, skip: u8) -> Went
-        requires here { pc ≡ self.old.pc }
-        requires within { self.old.pc < length self.old.program.code }
-        requires skip { skip ≡ blob.skip self.old.program self.old.pc }
-        requires short { skip ≤ 24 }
-        ensures acts { after_of self.new (exit_after result) ≡ after self.old.program (state_of self.old) (Gives (arguments F9 self.old.program.code self.old.pc skip).d (value_in (state_of self.old) (arguments F9 self.old.program.code self.old.pc skip).a)) }
+    pub(crate) fn move_reg(&mut self, at: At) -> Went
+        requires at { IsAt at self.old }
+        ensures acts { after_of self.new (exit_after result) ≡ after self.old.program (state_of self.old) (Gives (arguments F9 self.old.program.code self.old.pc at.skip).d (value_in (state_of self.old) (arguments F9 self.old.program.code self.old.pc at.skip).a)) }
         ensures next { result ≡ On → self.new.pc ≡ blob.next self.old.program self.old.pc }
         ensures done { is_done result ≡ true }
         ensures program { self.new.program ≡ self.old.program }
         ensures gas { self.new.gas ≡ self.old.gas }
     {
-        let at = two_registers(self.program.code(), pc);
-        let value = self.value(at.a);
-        self.give(at.d, value, pc, skip);
+        let args = two_registers_in(at.bytes);
+        let value = self.value(args.a);
+        self.give(args.d, value, at.next);
         Went::On
     }
 
@@ -139,9 +136,10 @@ impl Machine {
         ensures program { self.new.program ≡ self.old.program }
         ensures gas { self.new.gas ≡ self.old.gas }
     {
-        let at = two_registers_and_immediate(self.program.code(), pc, skip);
-        let holds = self.value(at.b) == 0;
-        self.move_where(holds, at.a, at.x, pc, skip);
+        let args = two_registers_and_immediate(self.program.code(), pc, skip);
+        let holds = self.value(args.b) == 0;
+        let next = self.next(skip);
+        self.move_where(holds, args.a, args.x, next);
         Went::On
     }
 
@@ -158,49 +156,44 @@ impl Machine {
         ensures program { self.new.program ≡ self.old.program }
         ensures gas { self.new.gas ≡ self.old.gas }
     {
-        let at = two_registers_and_immediate(self.program.code(), pc, skip);
-        let holds = self.value(at.b) != 0;
-        self.move_where(holds, at.a, at.x, pc, skip);
+        let args = two_registers_and_immediate(self.program.code(), pc, skip);
+        let holds = self.value(args.b) != 0;
+        let next = self.next(skip);
+        self.move_where(holds, args.a, args.x, next);
         Went::On
     }
 
     /// A register's value where another is 0.
     #[inline(always)]
-    pub(crate) fn cmov_iz(&mut self, pc: u64, skip: u8) -> Went
-        requires here { pc ≡ self.old.pc }
-        requires within { self.old.pc < length self.old.program.code }
-        requires skip { skip ≡ blob.skip self.old.program self.old.pc }
-        requires short { skip ≤ 24 }
-        ensures acts { after_of self.new (exit_after result) ≡ after self.old.program (state_of self.old) (Moves ((value_in (state_of self.old) (arguments F13 self.old.program.code self.old.pc skip).b) == 0) (arguments F13 self.old.program.code self.old.pc skip).d (value_in (state_of self.old) (arguments F13 self.old.program.code self.old.pc skip).a)) }
+    pub(crate) fn cmov_iz(&mut self, at: At) -> Went
+        requires at { IsAt at self.old }
+        ensures acts { after_of self.new (exit_after result) ≡ after self.old.program (state_of self.old) (Moves ((value_in (state_of self.old) (arguments F13 self.old.program.code self.old.pc at.skip).b) == 0) (arguments F13 self.old.program.code self.old.pc at.skip).d (value_in (state_of self.old) (arguments F13 self.old.program.code self.old.pc at.skip).a)) }
         ensures next { result ≡ On → self.new.pc ≡ blob.next self.old.program self.old.pc }
         ensures done { is_done result ≡ true }
         ensures program { self.new.program ≡ self.old.program }
         ensures gas { self.new.gas ≡ self.old.gas }
     {
-        let at = three_registers(self.program.code(), pc);
-        let holds = self.value(at.b) == 0;
-        let value = self.value(at.a);
-        self.move_where(holds, at.d, value, pc, skip);
+        let args = three_registers_in(at.bytes);
+        let holds = self.value(args.b) == 0;
+        let value = self.value(args.a);
+        self.move_where(holds, args.d, value, at.next);
         Went::On
     }
 
     /// A register's value where another is not 0.
     #[inline(always)]
-    pub(crate) fn cmov_nz(&mut self, pc: u64, skip: u8) -> Went
-        requires here { pc ≡ self.old.pc }
-        requires within { self.old.pc < length self.old.program.code }
-        requires skip { skip ≡ blob.skip self.old.program self.old.pc }
-        requires short { skip ≤ 24 }
-        ensures acts { after_of self.new (exit_after result) ≡ after self.old.program (state_of self.old) (Moves (not ((value_in (state_of self.old) (arguments F13 self.old.program.code self.old.pc skip).b) == 0)) (arguments F13 self.old.program.code self.old.pc skip).d (value_in (state_of self.old) (arguments F13 self.old.program.code self.old.pc skip).a)) }
+    pub(crate) fn cmov_nz(&mut self, at: At) -> Went
+        requires at { IsAt at self.old }
+        ensures acts { after_of self.new (exit_after result) ≡ after self.old.program (state_of self.old) (Moves (not ((value_in (state_of self.old) (arguments F13 self.old.program.code self.old.pc at.skip).b) == 0)) (arguments F13 self.old.program.code self.old.pc at.skip).d (value_in (state_of self.old) (arguments F13 self.old.program.code self.old.pc at.skip).a)) }
         ensures next { result ≡ On → self.new.pc ≡ blob.next self.old.program self.old.pc }
         ensures done { is_done result ≡ true }
         ensures program { self.new.program ≡ self.old.program }
         ensures gas { self.new.gas ≡ self.old.gas }
     {
-        let at = three_registers(self.program.code(), pc);
-        let holds = self.value(at.b) != 0;
-        let value = self.value(at.a);
-        self.move_where(holds, at.d, value, pc, skip);
+        let args = three_registers_in(at.bytes);
+        let holds = self.value(args.b) != 0;
+        let value = self.value(args.a);
+        self.move_where(holds, args.d, value, at.next);
         Went::On
     }
 
@@ -218,8 +211,8 @@ impl Machine {
         ensures program { self.new.program ≡ self.old.program }
         ensures gas { self.new.gas ≡ self.old.gas }
     {
-        let at = one_offset(self.program.code(), pc, skip);
-        self.jump(at.target)
+        let args = one_offset(self.program.code(), pc, skip);
+        self.jump(args.target)
     }
 
     /// A jump through the jump table.
@@ -253,9 +246,9 @@ impl Machine {
         ensures program { self.new.program ≡ self.old.program }
         ensures gas { self.new.gas ≡ self.old.gas }
     {
-        let at = register_immediate_and_offset(self.program.code(), pc, skip);
-        let target = at.target;
-        self.set(at.a, at.x);
+        let args = register_immediate_and_offset(self.program.code(), pc, skip);
+        let target = args.target;
+        self.set(args.a, args.x);
         self.jump(target)
     }
 

@@ -4,8 +4,8 @@ use Rattle.pvm_step.specs.Machine.{Machine}
 use Rattle.pvm_step.proofs.Effects.{within-ecalli}
 use Rattle.pvm_step.proofs.machine.Machine.pass_ecalli.Goals as goal
 
-pub go_on-requires-clause-place : goal.go_on-requires-clause-place
-go_on-requires-clause-place c =
+pub next-next-requires-clause-place : goal.next-next-requires-clause-place
+next-next-requires-clause-place c =
     omega (
       arith,
       within-ecalli c.args.self.now.program c.args.self.now.pc c.requires,

@@ -1,59 +1,29 @@
-use Rattle.std.proofs.Common.{◌≡◌, arith, sym, ◌∙◌, ap, Some, None, refl}
-use Rattle.blob_decode.specs.Program.{Program, skip}
-use Rattle.pvm_step.specs.Machine.{Machine, state_of, moment}
-use Rattle.pvm_step.specs.History.{step}
-use Rattle.pvm_step.specs.declared.exit.Exit.TheVariants.{Panic}
-use Rattle.pvm_step.proofs.Reached.{reached-none, made-more, made-last}
-use Rattle.pvm_step.proofs.machine.Machine.run.Goals.{in-On, in-Jumped, in-Beyond+in_ok-exit-in-Beyond+in_default}
+use Rattle.std.proofs.Common.{◌≡◌, ◌-◌, ℕ, arith, sym, subst, ◌∙◌, ap, Some, None, refl}
+use Rattle.std.specs.Prelude.{IfOk}
+use Rattle.pvm_step.specs.Machine.{Machine, state_of, moment, paid}
+use Rattle.pvm_step.specs.History.{Moment, reached}
+use Rattle.pvm_step.specs.declared.exit.Exit.TheVariants.{OutOfGas}
+use Rattle.pvm_step.proofs.Effects.{step-without}
+use Rattle.pvm_step.proofs.Reached.{made-last, stays_ended}
 use Rattle.pvm_step.proofs.machine.Machine.run.Goals as goal
-
-pub steps-init : goal.steps-init
-steps-init c = record {
-  program = refl;
-  place = ap (λ (m : Machine). m.pc) c.self.view_is;
-  here = sym (reached-none c.args.self.now.program c.args.self.now.gas (state_of c.args.self.now));
-}
-
-pub returns-in-Panics-clause-reached : goal.returns-in-Panics-clause-reached
-returns-in-Panics-clause-reached c =
-    made-last c.args.self.now.program c.args.self.now.gas (state_of c.args.self.now) c.steps._made c.args.fuel (moment c.steps.self None) (moment c.attempt.new.self (Some Panic)) Panic
-    c.steps-test.true refl c.steps.invariant.here refl
-    (c.in-Panics.ensures.made refl ∙ ap (λ (p : Program). step p c.steps.self.gas (state_of c.steps.self)) c.steps.invariant.program)
 
 pub returns-in-Some-clause-reached : goal.returns-in-Some-clause-reached
 returns-in-Some-clause-reached c =
-    made-last c.args.self.now.program c.args.self.now.gas (state_of c.args.self.now) c.steps._made c.args.fuel (moment c.steps.self None) (moment c.step_beyond.new.self (Some c.in-Some.exit)) c.in-Some.exit
-    c.steps-test.true refl c.steps.invariant.here refl
-    (ap (moment c.step_beyond.new.self) (sym c.in-Some.is) ∙ c.in_ok-exit-in-Beyond.ensures.step
-    ∙ ap (λ (m : Machine). step m.program m.gas (state_of m)) (c.in-Beyond.ensures.same refl)
-    ∙ ap (λ (p : Program). step p c.steps.self.gas (state_of c.steps.self)) c.steps.invariant.program)
+    let made : paid c.go-made.new.self c.go-made.result.0 c.in_ok-exit.field-0 ≡ reached c.min-most.result c.args.self.now.program c.args.self.now.gas (state_of c.args.self.now) =
+    subst (λ r. IfOk r (λ exit. paid c.go-made.new.self c.go-made.result.0 exit ≡ reached c.min-most.result c.args.self.now.program c.args.self.now.gas (state_of c.args.self.now))) c.in_ok-exit.was c.go-made.ensures.reached in
+    ap (λ (m : Machine). moment m (Some c.in-Some.exit)) c.pay.ensures
+    ∙ ap (paid c.go-made.new.self c.go-made.result.0) (sym c.in-Some.is)
+    ∙ made
+    ∙ sym (stays_ended c.min-most.result (c.args.fuel - c.min-most.result) c.args.self.now.program c.args.self.now.gas (state_of c.args.self.now) c.in-Some.exit (ap (λ (k : Moment). k.exit) (sym made) ∙ c.in-Some.is))
+    ∙ ap (λ (k : ℕ). reached k c.args.self.now.program c.args.self.now.gas (state_of c.args.self.now)) (omega (arith, c.min-most.ensures))
 
-pub steps-preserved : goal.steps-preserved
-steps-preserved c = elim c.match-attempt.branch [
-  | in-On w ↦ record {
-    program = ap (λ (m : Machine). m.program) w.self-is ∙ c.attempt.ensures.program ∙ c.steps.invariant.program;
-    place =
-        let skips : c.fetch-at.result.skip ≡ skip c.steps.self.program c.steps.self.pc =
-        c.fetch-at.ensures.skip ∙ ap (λ (p : Program). skip p c.steps.pc) (c.deref.ensures ∙ ap (λ (m : Machine). m.program) c.self-in-steps.view_is) ∙ ap (skip c.steps.self.program) c.steps.invariant.place in
-        omega (arith, w.pc-is, w.from.ensures, skips, c.steps.invariant.place, w.in-On.ensures.next refl, ap (λ (m : Machine). m.pc) w.self-is);
-    here = ap (λ (m : Machine). moment m None) w.self-is ∙ made-more c.args.self.now.program c.args.self.now.gas (state_of c.args.self.now) c.steps._made (moment c.steps.self None) (moment c.attempt.new.self None)
-        refl c.steps.invariant.here refl
-        (w.in-On.ensures.made refl ∙ ap (λ (p : Program). step p c.steps.self.gas (state_of c.steps.self)) c.steps.invariant.program);
-  }
-  | in-Jumped w ↦ record {
-    program = ap (λ (m : Machine). m.program) w.self-is ∙ c.attempt.ensures.program ∙ c.steps.invariant.program;
-    place = w.pc-is ∙ ap (λ (m : Machine). m.pc) w.self-in-Jumped.view_is ∙ sym (ap (λ (m : Machine). m.pc) w.self-is);
-    here = ap (λ (m : Machine). moment m None) w.self-is ∙ made-more c.args.self.now.program c.args.self.now.gas (state_of c.args.self.now) c.steps._made (moment c.steps.self None) (moment c.attempt.new.self None)
-        refl c.steps.invariant.here refl
-        (w.in-Jumped.ensures.made refl ∙ ap (λ (p : Program). step p c.steps.self.gas (state_of c.steps.self)) c.steps.invariant.program);
-  }
-  | in-Beyond+in_ok-exit-in-Beyond+in_default w ↦ record {
-    program = ap (λ (m : Machine). m.program) w.self-is ∙ w.step_beyond.ensures.program ∙ c.attempt.ensures.program ∙ c.steps.invariant.program;
-    place = w.pc-is ∙ ap (λ (m : Machine). m.pc) w.self-in-Beyond.view_is ∙ sym (ap (λ (m : Machine). m.pc) w.self-is);
-    here = ap (λ (m : Machine). moment m None) w.self-is ∙ made-more c.args.self.now.program c.args.self.now.gas (state_of c.args.self.now) c.steps._made (moment c.steps.self None) (moment w.step_beyond.new.self None)
-        refl c.steps.invariant.here refl
-        (ap (moment w.step_beyond.new.self) (sym w.in_default.is) ∙ w.in_ok-exit-in-Beyond.ensures.step
-        ∙ ap (λ (m : Machine). step m.program m.gas (state_of m)) (w.in-Beyond.ensures.same refl)
-        ∙ ap (λ (p : Program). step p c.steps.self.gas (state_of c.steps.self)) c.steps.invariant.program);
-  }
-]
+pub returns-then-most-fuel-clause-reached : goal.returns-then-most-fuel-clause-reached
+returns-then-most-fuel-clause-reached c =
+    let made : paid c.go-made.new.self c.go-made.result.0 c.in_ok-exit.field-0 ≡ reached c.min-most.result c.args.self.now.program c.args.self.now.gas (state_of c.args.self.now) =
+    subst (λ r. IfOk r (λ exit. paid c.go-made.new.self c.go-made.result.0 exit ≡ reached c.min-most.result c.args.self.now.program c.args.self.now.gas (state_of c.args.self.now))) c.in_ok-exit.was c.go-made.ensures.reached in
+    let all : c.go-made.result.0 ≡ c.min-most.result =
+    subst (λ r. IfOk r (λ exit. exit ≡ None → c.go-made.result.0 ≡ c.min-most.result)) c.in_ok-exit.was c.go-made.ensures.all c.in_default.is in
+    made-last c.args.self.now.program c.args.self.now.gas (state_of c.args.self.now) c.min-most.result c.args.fuel (paid c.go-made.new.self c.go-made.result.0 None) (moment c.pay.new.self (Some OutOfGas)) OutOfGas
+    c.if-most-fuel.true refl (ap (paid c.go-made.new.self c.go-made.result.0) (sym c.in_default.is) ∙ made) refl
+    (ap (λ (m : Machine). moment m (Some OutOfGas)) c.pay.ensures
+    ∙ step-without c.args.self.now.program (c.go-made.new.self.gas - c.go-made.result.0) (state_of c.go-made.new.self) (omega (arith, all, c.go-made.ensures.gas, c.min-most.ensures, c.left.ensures, c.if-most-fuel.true, ap (λ (m : Machine). m.gas) c.self.view_is)))

@@ -1,0 +1,18 @@
+use Rattle.std.proofs.Common.{◌≡◌, ◌%◌, true, false, sym, ◌∙◌}
+use Rattle.std.proofs.lemmas.Bool.{eq-eqb, ne_eqb}
+use Rattle.pvm_isa.proofs.WindowLaws.{first-byte}
+use Rattle.blob_decode.specs.Program.{mask_bit}
+use Rattle.blob_decode.proofs.KeptLaws.{op_at-begun, op_at-none}
+use Rattle.blob_decode.proofs.program.Program.found.Goals.{then-marks-eq1, else-marks-eq1}
+use Rattle.blob_decode.proofs.program.Program.found.Goals as goal
+
+pub returns-clause-op : goal.returns-clause-op
+returns-clause-op c = elim c.if-marks-eq1.branch [
+  | then-marks-eq1 w ↦
+      let begins : mask_bit c.args.self.now c.args.place ≡ true = sym c.marks_from-marks.ensures.own ∙ eq-eqb (c.marks_from-marks.result % 2) 1 w.if-marks-eq1.true in
+      w.op-is ∙ w.op_or_trap-op.ensures
+      ∙ op_at-begun c.args.self.now c.args.place (c.args.bytes % 256) c.requires.within begins (first-byte c.args.self.now.code c.args.place c.args.bytes c.requires.window)
+  | else-marks-eq1 w ↦
+      let none : mask_bit c.args.self.now c.args.place ≡ false = sym c.marks_from-marks.ensures.own ∙ ne_eqb (c.marks_from-marks.result % 2) 1 w.if-marks-eq1.false in
+      w.op-is ∙ w.none_begins-op.ensures ∙ op_at-none c.args.self.now c.args.place none
+]

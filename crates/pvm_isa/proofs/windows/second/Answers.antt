@@ -1,0 +1,5 @@
+use Rattle.pvm_isa.proofs.WindowLaws.{second-byte}
+use Rattle.pvm_isa.proofs.windows.second.Goals as goal
+
+pub returns : goal.returns
+returns c = λ code place is. second-byte code place c.args.bytes is
