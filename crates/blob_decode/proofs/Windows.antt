@@ -6,7 +6,7 @@ use Rattle.std.proofs.Math.Nat.{div-div-eq-div-mul, pow-succ', pow-le-pow_right,
 use Rattle.std.proofs.lemmas.Bool.{cases_lt}
 use Rattle.std.proofs.lemmas.List.{get_or-drop, get_or-take, length-take-le}
 use Rattle.std.proofs.lemmas.Nat.{shr-shr, or_lt, le_or_r, leading_top, field_of}
-use Rattle.std.proofs.lemmas.Nat.Bits.{bit_at-trailing_zeros, bit_at_or, bit_at-pow_same, bit_at-pow_other}
+use Rattle.std.proofs.lemmas.Nat.Bits.{bit_at-trailing_zeros, bit_at_lowest, bit_at_or, bit_at-pow_same, bit_at-pow_other}
 use Rattle.jam_codec.specs.Spelling.{little_number, binary_digits}
 use Rattle.jam_codec.specs.Laws.{AreBytes}
 use Rattle.jam_codec.proofs.Numbers.{AreBytes-take, AreBytes-drop}
@@ -34,6 +34,43 @@ FirstSet-trailing_zeros bits h =
       zeros = λ j less. sym (low j (omega arith)) ∙ found.2 j less;
       one = λ less. sym (low (trailing_zeros w32 whole) less) ∙ found.1;
     }
+
+-- a double has no bit set below the place after the lowest set bit of the number
+low-clear : (x t u : ℕ) → ((i : ℕ) → bit_at (x * 2) (i + 1) ≡ bit_at x i) → ((i : ℕ) → i < u → bit_at x i ≡ 0) → t < u + 1 → bit_at (x * 2) t ≡ 1 → ⊥
+low-clear x zero u up clear under set = omega (arith, set, bit_at_lowest (x * 2))
+low-clear x (suc t) u up clear under set =
+    let here : bit_at (x * 2) (suc t) ≡ bit_at x t = ap (bit_at (x * 2)) (omega arith) ∙ up t in
+    omega (arith, set, here, clear t (omega arith))
+
+-- the zeros below the lowest set bit of a number, and of its double
+twice-trailing_zeros : (x : ℕ) → 0 < x → x < 2 ^ 31 → trailing_zeros w32 (x * 2) ≡ trailing_zeros w32 x + 1
+twice-trailing_zeros x some below =
+    let once : (trailing_zeros w32 x < 32) × (bit_at x (trailing_zeros w32 x) ≡ 1) × ((i : ℕ) → i < trailing_zeros w32 x → bit_at x i ≡ 0) = bit_at-trailing_zeros w32 x some (omega arith) in
+    let twice : (trailing_zeros w32 (x * 2) < 32) × (bit_at (x * 2) (trailing_zeros w32 (x * 2)) ≡ 1) × ((i : ℕ) → i < trailing_zeros w32 (x * 2) → bit_at (x * 2) i ≡ 0) = bit_at-trailing_zeros w32 (x * 2) (omega arith) (omega arith) in
+    let up : (i : ℕ) → bit_at (x * 2) (i + 1) ≡ bit_at x i = λ i.
+    let half : x * 2 / 2 ≡ x = omega arith in
+    ap (λ (k : ℕ). x * 2 / k % 2) (ap (λ (k : ℕ). 2 ^ k) (omega arith) ∙ pow-succ' 2 i)
+    ∙ ap (λ (k : ℕ). k % 2) (sym (div-div-eq-div-mul (x * 2) 2 (2 ^ i)))
+    ∙ ap (λ (k : ℕ). k / 2 ^ i % 2) half in
+    elim (cases_lt (trailing_zeros w32 x + 1) (trailing_zeros w32 (x * 2))) [
+      | inl less ↦ absurd (omega (arith, twice.2 (trailing_zeros w32 x + 1) less, up (trailing_zeros w32 x), once.1))
+      | inr more ↦ elim (cases_lt (trailing_zeros w32 (x * 2)) (trailing_zeros w32 x + 1)) [
+        | inl under ↦ absurd (low-clear x (trailing_zeros w32 (x * 2)) (trailing_zeros w32 x) up once.2 under twice.1)
+        | inr over ↦ omega arith
+      ]
+    ]
+
+-- so how far the first set bit but the lowest is
+pub FirstSet-ahead : (bits r : ℕ) → bits < 2 ^ 32 → r ≡ trailing_zeros w32 (bit_or (bits / 2) 16777216 * 2 % 4294967296) → (0 < r) × (r ≤ 25) × ((n : ℕ) → n + 1 ≡ r → FirstSet (bits / 2) n)
+FirstSet-ahead bits r h is =
+    let half : ℕ = bits / 2 in
+    let with_end : ℕ = bit_or (bits / 2) 16777216 in
+    let below : bit_or (bits / 2) 16777216 < 2 ^ 31 = or_lt 31 (bits / 2) 16777216 (omega arith) (lit< tt) in
+    let some : 0 < bit_or (bits / 2) 16777216 = omega (arith, le_or_r (bits / 2) 16777216) in
+    let whole : with_end * 2 % 4294967296 ≡ with_end * 2 = omega (arith, below) in
+    let ahead : r ≡ trailing_zeros w32 with_end + 1 = is ∙ ap (trailing_zeros w32) whole ∙ twice-trailing_zeros with_end some below in
+    let set : FirstSet (bits / 2) (trailing_zeros w32 with_end) = FirstSet-trailing_zeros half (omega arith) in
+    (omega (arith, ahead), omega (arith, ahead, set.most), λ n e. let same : n ≡ trailing_zeros w32 with_end = omega (arith, e, ahead) in subst (FirstSet half) (sym same) set)
 
 -- the last set bit, by the zeros above it
 pub LastSet-leading_zeros : (bits : ℕ) → 0 < bits → bits < 2 ^ 32 → LastSet bits (31 - leading_zeros w32 bits)

@@ -1,5 +1,5 @@
 // A program in memory.
-ghost use Rattle.std.specs.Prelude.{◌≡◌, ◌<◌, ◌≤◌, ◌+◌, ◌/◌, ◌%◌, ◌^◌, ◌==◌, ℕ, true, false, None, if◌then◌else◌, IfSome, IfNone, MatchOption, IfOk, IfErr, IsErrOf, length, take, drop, slice_get};
+ghost use Rattle.std.specs.Prelude.{◌≡◌, ◌<◌, ◌≤◌, ◌+◌, ◌-◌, ◌/◌, ◌%◌, ◌^◌, ◌==◌, ℕ, true, false, None, if◌then◌else◌, IfSome, IfNone, MatchOption, IfOk, IfErr, IsErrOf, length, take, drop, slice_get};
 ghost use Rattle.jam_codec.specs.Spelling.{little_number, bytes_for};
 ghost use Rattle.jam_codec.specs.Format.{Spells};
 ghost use Rattle.blob_decode.specs.declared.program.ProgramRefusal.TheVariants.{NoMemory, NotProgram};
@@ -8,7 +8,7 @@ ghost use Rattle.pvm_isa.specs.Opcodes.{op_numbered};
 ghost use Rattle.pvm_isa.specs.Arguments.{IsWindow};
 ghost use Rattle.blob_decode.specs.Refusal.{IsPlaced};
 ghost use Rattle.blob_decode.specs.Kept.{FirstSet, LastSet, AreMarks};
-ghost use Rattle.blob_decode.specs.Program.{program_blob, mask_bit, code_byte, op_begins, op_at, gap, skip, is_start, ends_block, ends_before, some_below};
+ghost use Rattle.blob_decode.specs.Program.{program_blob, mask_bit, code_byte, op_begins, op_at, gap, skip, next, is_start, ends_block, ends_before, some_below};
 
 use crate::parts::{parts_of, push_lists};
 use jam_codec::{Malformed, number_of, push_fixed, push_natural};
@@ -64,6 +64,8 @@ pub struct Fetched {
     pub op: Op,
     /// How many bytes of arguments it has, at most 24.
     pub skip: u8,
+    /// The place of the next instruction.
+    pub next: u64,
     /// The number in the eight bytes of the code from there on. Past the code they are 0.
     pub bytes: u64,
 }
@@ -122,6 +124,16 @@ fn zeros_before(bits: u32) -> u8
     ensures { FirstSet bits result }
 {
     (bits | 1 << 24).trailing_zeros() as u8
+}
+
+// Of the lowest 25 bits, the first but the lowest that is set, or else the one after them.
+#[inline]
+fn next_set(bits: u32) -> u32
+    ensures first { (n : ℕ) → n + 1 ≡ result → FirstSet (bits / 2) n }
+    ensures some { 0 < result }
+    ensures most { result ≤ 25 }
+{
+    ((bits >> 1 | 1 << 24) << 1).trailing_zeros()
 }
 
 // The highest bit that is set, if one is.
@@ -259,17 +271,22 @@ impl Program {
         ensures op { result.op ≡ op_at self.now place }
         ensures skip { result.skip ≡ skip self.now place }
         ensures most { result.skip ≤ 24 }
+        ensures next { result.next ≡ next self.now place }
         ensures bytes { result.bytes ≡ bytes }
     {
+        // The code is shorter than 2^63.
+        let _code = self.code();
         let marks = self.marks_from(place);
         let op = if marks % 2 == 1 {
             op_or_trap((bytes % 256) as u8)
         } else {
             none_begins()
         };
+        let ahead = next_set(marks);
         Fetched {
             op,
-            skip: zeros_before(marks >> 1),
+            skip: (ahead - 1) as u8,
+            next: place + u64::from(ahead),
             bytes,
         }
     }
@@ -283,6 +300,7 @@ impl Program {
         ensures op { IfSome result (λ found. found.op ≡ op_at self.now pc) }
         ensures skip { IfSome result (λ found. found.skip ≡ skip self.now pc) }
         ensures most { IfSome result (λ found. found.skip ≤ 24) }
+        ensures next { IfSome result (λ found. found.next ≡ next self.now pc) }
         ensures bytes { IfSome result (λ found. IsWindow self.now.code pc found.bytes) }
     {
         let code = self.code();
@@ -300,6 +318,7 @@ impl Program {
         ensures op { IfSome result (λ found. found.op ≡ op_at self.now pc) }
         ensures skip { IfSome result (λ found. found.skip ≡ skip self.now pc) }
         ensures most { IfSome result (λ found. found.skip ≤ 24) }
+        ensures next { IfSome result (λ found. found.next ≡ next self.now pc) }
         ensures bytes { IfSome result (λ found. IsWindow self.now.code pc found.bytes) }
     {
         if pc < self.windows {

@@ -37,6 +37,7 @@ fn a_program_is_read(rt: HostRuntime) -> Result<(), Fail> {
         let wanted = bytes.map(|bytes| Fetched {
             op: program.op_at(place),
             skip: program.skip(place),
+            next: place.wrapping_add(1 + u64::from(program.skip(place))),
             bytes,
         });
         assert_eq!(rt; program.fetch(place), wanted, "fetched at {place}");

@@ -72,12 +72,18 @@ impl Machine {
         ensures op { IfSome result (λ at. at.op ≡ op_at self.now.program self.now.pc) }
         ensures at { IfSome result (λ at. IsAt at self.now) }
     {
-        let _code = self.program.code();
         match self.program.fetch(pc) {
-            Some(Fetched { op, skip, bytes }) => Some(At {
+            Some(
+                Fetched {
+                    op,
+                    skip,
+                    next,
+                    bytes,
+                },
+            ) => Some(At {
                 op,
                 pc,
-                next: pc + 1 + u64::from(skip),
+                next,
                 skip,
                 bytes,
             }),

@@ -1,7 +1,7 @@
-use Rattle.std.proofs.Common.{◌≡◌, ◌%◌, true, false, sym, ◌∙◌}
+use Rattle.std.proofs.Common.{arith, ◌-◌, ◌≡◌, ◌%◌, true, false, sym, ◌∙◌}
 use Rattle.std.proofs.lemmas.Bool.{eq-eqb, ne_eqb}
 use Rattle.pvm_isa.proofs.WindowLaws.{first-byte}
-use Rattle.blob_decode.specs.Program.{mask_bit}
+use Rattle.blob_decode.specs.Program.{mask_bit, skip}
 use Rattle.blob_decode.proofs.KeptLaws.{op_at-begun, op_at-none}
 use Rattle.blob_decode.proofs.program.Program.found.Goals.{then-marks-eq1, else-marks-eq1}
 use Rattle.blob_decode.proofs.program.Program.found.Goals as goal
@@ -16,3 +16,12 @@ returns-clause-op c = elim c.if-marks-eq1.branch [
       let none : mask_bit c.args.self.now c.args.place ≡ false = sym c.marks_from-marks.ensures.own ∙ ne_eqb (c.marks_from-marks.result % 2) 1 w.if-marks-eq1.false in
       w.op-is ∙ w.none_begins-op.ensures ∙ op_at-none c.args.self.now c.args.place none
 ]
+
+pub returns-clause-skip : goal.returns-clause-skip
+returns-clause-skip c = sym (c.marks_from-marks.ensures.next (c.next_set-ahead.result - 1) (c.next_set-ahead.ensures.first (c.next_set-ahead.result - 1) (omega (arith, c.next_set-ahead.ensures.some))))
+
+pub returns-clause-next : goal.returns-clause-next
+returns-clause-next c =
+    let skips : skip c.args.self.now c.args.place ≡ c.next_set-ahead.result - 1 =
+    c.marks_from-marks.ensures.next (c.next_set-ahead.result - 1) (c.next_set-ahead.ensures.first (c.next_set-ahead.result - 1) (omega (arith, c.next_set-ahead.ensures.some))) in
+    omega (arith, skips, c.next_set-ahead.ensures.some, c.from.ensures)
