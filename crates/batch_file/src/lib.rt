@@ -14,6 +14,3 @@ pub use item::{ITEM_LIMIT, ReportItem, ReportItems};
 pub use laws::batch_laws;
 pub use report::{REPORT_LIMIT, Report, Reports};
 pub use result::WorkResult;
-
-#[cfg(test)]
-mod tests;

@@ -11,9 +11,6 @@ mod hasher;
 
 pub use hasher::Hasher;
 
-#[cfg(test)]
-mod tests;
-
 /// The digest of bytes.
 pub fn digest(bytes: &[u8]) -> [u8; 32]
     ensures { result ≡ digest bytes.now }

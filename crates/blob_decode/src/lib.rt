@@ -7,6 +7,3 @@ mod program;
 
 pub use laws::{blob_laws, start_law};
 pub use program::{Fetched, Program, ProgramRefusal};
-
-#[cfg(test)]
-mod tests;

@@ -1,3 +1,1 @@
-pub mod Devices
-pub mod Transfers
 pub mod Report

@@ -1,19 +1,11 @@
 //! The program: it does what its words ask for, over the files of the system and standard output.
 #![tactic(auto)]
 
-mod file_vault;
-mod memory;
-mod out_sink;
 mod report;
-#[cfg(test)]
-mod tests;
-mod transfer;
-mod whole_file;
 mod words;
 
-use file_vault::FileVault;
 use jam_cli::jam;
-use out_sink::OutSink;
+use jam_files::{FileVault, OutSink};
 use report::{say, status_code};
 use std::process::ExitCode;
 use words::words_of;

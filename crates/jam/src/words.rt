@@ -2,8 +2,8 @@
 ghost use Rattle.std.specs.Prelude.{◌≡◌, ◌⊎◌, IfErr};
 ghost use Rattle.jam_cli.specs.declared.status.Status.TheVariants.{NoMemory, BadWords};
 
-use crate::memory::is_out_of_memory;
 use jam_cli::Status;
+use jam_files::is_out_of_memory;
 use std::env;
 
 /// The words after the program's name.

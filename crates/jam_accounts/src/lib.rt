@@ -18,6 +18,3 @@ pub use lookups::{Lookups, LookupsEntries};
 pub use preimages::{Preimages, PreimagesEntries};
 pub use state::{State, VERSION};
 pub use storage::{Storage, StorageEntries};
-
-#[cfg(test)]
-mod tests;

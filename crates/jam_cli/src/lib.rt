@@ -11,6 +11,3 @@ mod words;
 
 pub use status::Status;
 pub use top::jam;
-
-#[cfg(test)]
-mod tests;

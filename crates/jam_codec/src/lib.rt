@@ -13,6 +13,3 @@ pub use laws::{field_laws, joined_laws, one_spelling_laws};
 pub use natural::number_of;
 pub use refusal::FileRefusal;
 pub use writing::{push_bits, push_blob, push_fixed, push_natural, spell_natural};
-
-#[cfg(test)]
-mod tests;

@@ -15,6 +15,3 @@ pub use file::{read_file, write_file};
 pub use list::{read_list, write_list};
 pub use number::read_natural;
 pub use row::{Row, read_rows, write_rows};
-
-#[cfg(test)]
-mod tests;

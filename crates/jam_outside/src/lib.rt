@@ -7,8 +7,6 @@ mod mem_vault;
 mod sink;
 mod sure_sink;
 mod sure_vault;
-#[cfg(test)]
-mod tests;
 mod vault;
 mod whole;
 

@@ -15,6 +15,3 @@ pub use access::{Access, StoreRefusal};
 pub use laws::{refusal_laws, write_laws};
 pub use memory::Memory;
 pub use rights::Rights;
-
-#[cfg(test)]
-mod tests;

@@ -4,6 +4,3 @@
 mod history;
 
 pub use history::{EXPUNGE_PERIOD, Forgot, History, Huh, forget, solicit};
-
-#[cfg(test)]
-mod tests;

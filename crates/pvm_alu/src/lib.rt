@@ -8,6 +8,3 @@ mod shifts;
 mod words;
 
 pub use alu::{binary, test, unary, widen};
-
-#[cfg(test)]
-mod tests;

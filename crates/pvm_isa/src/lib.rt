@@ -23,6 +23,3 @@ pub use windows::{
     code_window, register_and_immediate_in, register_immediate_and_offset_in, three_registers_in,
     two_registers_and_immediate_in, two_registers_and_offset_in, two_registers_in, whole_window,
 };
-
-#[cfg(test)]
-mod tests;

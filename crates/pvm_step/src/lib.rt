@@ -17,6 +17,3 @@ pub use exit::{Exit, HostStep, Progress};
 pub use heap::Heap;
 pub use laws::{effect_laws, history_laws, run_laws};
 pub use machine::Machine;
-
-#[cfg(test)]
-mod tests;

@@ -10,6 +10,3 @@ mod storage;
 
 pub use file::{read_state, write_state};
 pub use laws::state_laws;
-
-#[cfg(test)]
-mod tests;

@@ -1,0 +1,11 @@
+//! Tests of the codec, the digest and the outside by their public calls.
+#![tactic(auto)]
+
+#[cfg(test)]
+mod devices;
+#[cfg(test)]
+mod digests;
+#[cfg(test)]
+mod small_files;
+#[cfg(test)]
+mod spellings;

@@ -1,0 +1,139 @@
+//! Blobs byte by byte, as a reader would write them out.
+use blob_decode::{Fetched, Program, ProgramRefusal};
+use pvm_isa::Op;
+use std::test::*;
+
+// No jumps of width 0, ten bytes of code, the mask: instructions begin at places 0, 3 and 8.
+const BLOB: [u8; 15] = [
+    0x00, 0x00, 0x0a, 0x33, 0x07, 0x2a, 0x33, 0x00, 0x00, 0x00, 0xff, 0x32, 0x00, 0x09, 0x01,
+];
+
+#[test]
+fn a_program_is_read(rt: HostRuntime) -> Result<(), Fail> {
+    let program = Program::deblob(rt.alloc(), &BLOB).ok().ok_or("a blob")?;
+    assert!(rt; program.code() == &BLOB[3..13]);
+    assert_eq!(rt; program.jump_count(), 0);
+    assert_eq!(rt; program.width(), 0);
+    let places = [
+        (0, true, Op::LoadImm, 2, true),
+        (1, false, Op::Trap, 1, false),
+        (3, true, Op::LoadImm, 4, false),
+        (8, true, Op::JumpInd, 1, false),
+        (9, false, Op::Trap, 0, false),
+        (10, true, Op::Trap, 0, false),
+        (u64::MAX, true, Op::Trap, 0, false),
+    ];
+    let bytes = [
+        (0, Some(0xff00_0000_332a_0733)),
+        (1, Some(0x32ff_0000_0033_2a07)),
+        (2, Some(0x0032_ff00_0000_332a)),
+        (3, Some(0x0000_32ff_0000_0033)),
+        (8, Some(0x32)),
+        (9, Some(0)),
+        (10, None),
+        (u64::MAX, None),
+    ];
+    for (place, bytes) in bytes {
+        let wanted = bytes.map(|bytes| Fetched {
+            op: program.op_at(place),
+            skip: program.skip(place),
+            next: place.wrapping_add(1 + u64::from(program.skip(place))),
+            bytes,
+        });
+        assert_eq!(rt; program.fetch(place), wanted, "fetched at {place}");
+    }
+    for (place, begins, op, skip, starts) in places {
+        assert_eq!(rt; program.mask_at(place), begins, "mask at {place}");
+        assert_eq!(rt; program.op_at(place), op, "opcode at {place}");
+        assert_eq!(rt; program.skip(place), skip, "skip at {place}");
+        assert_eq!(rt; program.is_start(place), starts, "block at {place}");
+    }
+    Ok(())
+}
+
+#[test]
+fn an_instruction_has_at_most_24_bytes_of_arguments(rt: HostRuntime) -> Result<(), Fail> {
+    // Forty bytes of code, all traps; instructions begin at places 0 and 25, or 0 and 26.
+    for (mask, skip, starts) in [(0x02, 24, true), (0x04, 24, false)] {
+        let mut blob = [0; 48];
+        blob[2] = 40;
+        blob[43] = 1;
+        blob[46] = mask;
+        let program = Program::deblob(rt.alloc(), &blob).ok().ok_or("a blob")?;
+        assert_eq!(rt; program.skip(0), skip);
+        assert_eq!(rt; program.is_start(25) || program.is_start(26), starts);
+        assert_eq!(rt; program.skip(27), 12);
+    }
+    Ok(())
+}
+
+#[test]
+fn a_jump_table_is_read(rt: HostRuntime) -> Result<(), Fail> {
+    let blob = [
+        0x01, 0x01, 0x06, 0x05, 0x33, 0x01, 0x02, 0x32, 0x01, 0x00, 0x29,
+    ];
+    let program = Program::deblob(rt.alloc(), &blob).ok().ok_or("a blob")?;
+    assert_eq!(rt; program.jump_count(), 1);
+    assert_eq!(rt; program.jump_at(0), Some(5));
+    assert_eq!(rt; program.jump_at(1), None);
+    assert!(rt; program.is_start(5), "after jump_ind");
+    let most = [
+        0xff, 0xff, 0xff, 0xff, 0xff, 0xff, 0xff, 0xff, 0xff, 0x00, 0x00,
+    ];
+    let program = Program::deblob(rt.alloc(), &most).ok().ok_or("a blob")?;
+    assert_eq!(rt; program.jump_at(u64::MAX - 1), Some(0));
+    assert_eq!(rt; program.jump_at(u64::MAX), None);
+    Ok(())
+}
+
+#[test]
+fn other_bytes_are_refused_where_a_field_does_not_spell(rt: HostRuntime) {
+    let mut spare = BLOB;
+    spare[14] = 0x05;
+    let mut longer = [0; 16];
+    longer[..15].copy_from_slice(&BLOB);
+    let table: [(&[u8], u64); 12] = [
+        (&[], 0),
+        (&[0x80], 0),
+        (&[0x00], 1),
+        (&[0x00, 0x09, 0x00], 1),
+        (&[0x00, 0x00], 2),
+        (&[0x00, 0x00, 0x05, 0x01, 0x02], 3),
+        (&spare, 13),
+        (&BLOB[..14], 13),
+        (&longer, 15),
+        // Of two jumps of four bytes the second is not whole.
+        (&[0x02, 0x04, 0x00, 0x01, 0x00, 0x00, 0x00, 0x02, 0x00], 7),
+        (&[0x01, 0x04, 0x00, 0x01, 0x00, 0x00, 0x00, 0x02, 0x00], 7),
+        (
+            &[
+                0xff, 0xff, 0xff, 0xff, 0xff, 0xff, 0xff, 0xff, 0xff, 0x08, 0x00,
+            ],
+            11,
+        ),
+    ];
+    for (bytes, place) in table {
+        let refusal = Program::deblob(rt.alloc(), bytes).err();
+        assert_eq!(rt; refusal, Some(ProgramRefusal::NotProgram { place }));
+    }
+}
+
+#[test]
+fn a_program_is_spelled_by_its_blob(rt: HostRuntime) -> Result<(), Fail> {
+    let table: [&[u8]; 4] = [
+        &[0x00, 0x08, 0x00],
+        &BLOB,
+        &[
+            0x02, 0x02, 0x06, 0x05, 0x00, 0xff, 0xff, 0x33, 0x01, 0x02, 0x32, 0x01, 0x00, 0x29,
+        ],
+        &[
+            0xff, 0xff, 0xff, 0xff, 0xff, 0xff, 0xff, 0xff, 0xff, 0x00, 0x00,
+        ],
+    ];
+    for bytes in table {
+        let program = Program::deblob(rt.alloc(), bytes).ok().ok_or("a blob")?;
+        let spelled = program.spell()?;
+        assert!(rt; spelled.as_slice() == bytes);
+    }
+    Ok(())
+}

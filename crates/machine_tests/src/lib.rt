@@ -1,0 +1,15 @@
+//! Tests of the machine and its parts by their public calls.
+#![tactic(auto)]
+
+#[cfg(test)]
+mod blobs;
+#[cfg(test)]
+mod gas;
+#[cfg(test)]
+mod instructions;
+#[cfg(test)]
+mod operations;
+#[cfg(test)]
+mod pages;
+#[cfg(test)]
+mod runs;

@@ -1,0 +1,138 @@
+//! Files of batches, byte by byte.
+use batch_file::{
+    Batch, Deliveries, Delivery, Report, ReportItems, Reports, WorkResult, read_batch, write_batch,
+};
+use jam_codec::FileRefusal;
+use jam_fields::{Blob, read_file, write_file};
+use std::alloc::{AllocError, Global};
+use std::test::Fail;
+
+// Slot 7, and nothing else.
+const EMPTY: [u8; 46] = [
+    7, 0, 0, 0, 0, 0, 0, 0, 0, 0, 0, 0, 0, 0, 0, 0, 0, 0, 0, 0, 0, 0, 0, 0, 0, 0, 0, 0, 0, 0, 0, 0,
+    0, 0, 0, 0, 0, 0, 0, 0, 0, 0, 0, 0, 0, 0,
+];
+
+const DELIVERED: [u8; 58] = [
+    2, 1, 0, 0, 9, 9, 9, 9, 9, 9, 9, 9, 9, 9, 9, 9, 9, 9, 9, 9, 9, 9, 9, 9, 9, 9, 9, 9, 9, 9, 9, 9,
+    9, 9, 9, 9, 0xe8, 3, 0, 0, 0, 0, 0, 0, 0, 2, 5, 0, 0, 0, 2, 0xaa, 0xbb, 1, 0, 0, 0, 0,
+];
+
+// Four items of service 5, with an output of one byte, out of gas, a panic and no code.
+const RESULTS: [u8; 215] = [
+    3, 3, 3, 3, 3, 3, 3, 3, 3, 3, 3, 3, 3, 3, 3, 3, 3, 3, 3, 3, 3, 3, 3, 3, 3, 3, 3, 3, 3, 3, 3, 3,
+    4, 5, 0, 0, 0, 6, 0, 0, 0, 0, 0, 0, 0, 4, 4, 4, 4, 4, 4, 4, 4, 4, 4, 4, 4, 4, 4, 4, 4, 4, 4, 4,
+    4, 4, 4, 4, 4, 4, 4, 4, 4, 4, 4, 4, 4, 0, 1, 7, 5, 0, 0, 0, 6, 0, 0, 0, 0, 0, 0, 0, 4, 4, 4, 4,
+    4, 4, 4, 4, 4, 4, 4, 4, 4, 4, 4, 4, 4, 4, 4, 4, 4, 4, 4, 4, 4, 4, 4, 4, 4, 4, 4, 4, 1, 5, 0, 0,
+    0, 6, 0, 0, 0, 0, 0, 0, 0, 4, 4, 4, 4, 4, 4, 4, 4, 4, 4, 4, 4, 4, 4, 4, 4, 4, 4, 4, 4, 4, 4, 4,
+    4, 4, 4, 4, 4, 4, 4, 4, 4, 2, 5, 0, 0, 0, 6, 0, 0, 0, 0, 0, 0, 0, 4, 4, 4, 4, 4, 4, 4, 4, 4, 4,
+    4, 4, 4, 4, 4, 4, 4, 4, 4, 4, 4, 4, 4, 4, 4, 4, 4, 4, 4, 4, 4, 4, 3,
+];
+
+#[test]
+fn reads_and_writes_an_empty_batch(rt: HostRuntime) -> Result<(), Fail> {
+    let batch = read_batch(rt.alloc(), &EMPTY).or(Err("a batch"))?;
+    assert_eq!(rt; batch.slot, 7);
+    assert_eq!(rt; batch.entropy, [0; 32]);
+    assert_eq!(rt; batch.gas, 0);
+    assert!(rt; batch.reports.as_slice().is_empty());
+    assert!(rt; batch.preimages.as_slice().is_empty());
+    let bytes = write_batch(rt.alloc(), &batch)?;
+    assert_eq!(rt; bytes.as_slice(), EMPTY.as_slice());
+    assert!(rt; batch.reports.into_vec().is_empty());
+    Ok(())
+}
+
+#[test]
+fn bytes_that_spell_no_batch(rt: HostRuntime) {
+    let mut one_report = EMPTY;
+    one_report[44] = 1;
+    let mut one_more = [0; 47];
+    one_more[..46].copy_from_slice(&EMPTY);
+    let table: [(&[u8], u64); 2] = [(&one_report, 44), (&one_more, 46)];
+    for (bytes, place) in table {
+        let read = read_batch(rt.alloc(), bytes);
+        assert!(rt;
+            read.err() == Some(FileRefusal::Malformed { place }),
+            "to {place}"
+        );
+    }
+}
+
+#[test]
+fn no_prefix_is_a_batch(rt: HostRuntime) {
+    for length in 0..EMPTY.len() {
+        let place = match length {
+            0..=3 => 0,
+            4..=35 => 4,
+            36..=43 => 36,
+            _ => length as u64,
+        };
+        let read = read_batch(rt.alloc(), &EMPTY[..length]);
+        assert!(rt;
+            read.err() == Some(FileRefusal::Malformed { place }),
+            "of {length}"
+        );
+    }
+}
+
+fn delivery(alloc: Global, service: u32, bytes: &[u8]) -> Result<Delivery, AllocError> {
+    let bytes = Blob::new(Vec::from_slice(alloc, bytes)?);
+    Ok(Delivery { service, bytes })
+}
+
+#[test]
+fn two_deliveries(rt: HostRuntime) -> Result<(), Fail> {
+    let alloc = rt.alloc();
+    let first = delivery(alloc, 5, &[0xaa, 0xbb])?;
+    let second = delivery(alloc, 1, &[])?;
+    let batch = Batch {
+        slot: 0x102,
+        entropy: [9; 32],
+        gas: 1000,
+        reports: Reports::new(vec![in alloc]?),
+        preimages: Deliveries::new(vec![in alloc; first, second]?),
+    };
+    let bytes = write_batch(alloc, &batch)?;
+    assert_eq!(rt; bytes.as_slice(), DELIVERED.as_slice());
+    let read = read_batch(alloc, bytes.as_slice()).or(Err("a batch"))?;
+    assert_eq!(rt; read.slot, batch.slot);
+    assert_eq!(rt; read.entropy, batch.entropy);
+    assert_eq!(rt; read.gas, batch.gas);
+    let left = read.preimages.into_vec();
+    assert_eq!(rt; left.len(), 2);
+    for (left, right) in left.iter().zip(batch.preimages.as_slice()) {
+        assert_eq!(rt; left.service, right.service);
+        assert_eq!(rt; left.bytes.as_slice(), right.bytes.as_slice());
+    }
+    Ok(())
+}
+
+#[test]
+fn results_by_their_tags(rt: HostRuntime) -> Result<(), Fail> {
+    let report: Report = read_file(rt.alloc(), &RESULTS).or(Err("a report"))?;
+    let bytes = write_file(rt.alloc(), &report)?;
+    assert_eq!(rt; bytes.as_slice(), RESULTS.as_slice());
+    let items = ReportItems::new(report.items.into_vec());
+    match items.as_slice() {
+        [output, out_of_gas, panic, no_code] => {
+            assert!(rt;
+                matches!(&output.result, WorkResult::Output(bytes) if bytes.as_slice() == [7].as_slice())
+            );
+            assert!(rt; matches!(&out_of_gas.result, WorkResult::OutOfGas));
+            assert!(rt; matches!(&panic.result, WorkResult::Panic));
+            assert!(rt; matches!(&no_code.result, WorkResult::NoCode));
+        }
+        _ => Err("four items")?,
+    }
+    for (at, byte, place) in [(32, 17, 32), (77, 4, 77), (214, 4, 214)] {
+        let mut bytes = RESULTS;
+        bytes[at] = byte;
+        let read: Result<Report, FileRefusal> = read_file(rt.alloc(), &bytes);
+        assert!(rt;
+            read.err() == Some(FileRefusal::Malformed { place }),
+            "to {place}"
+        );
+    }
+    Ok(())
+}

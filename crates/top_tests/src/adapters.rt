@@ -1,0 +1,92 @@
+//! The adapters over real files and standard output. The expected answers were set by hand.
+use jam_files::{FileVault, OutSink};
+use jam_outside::{OutsideError, Sink, Vault};
+use std::fmt::Display;
+use std::fs::Permissions;
+use std::io::ErrorKind;
+use std::os::unix::fs::PermissionsExt;
+use std::test::Fail;
+use std::{fs, io};
+
+#[test]
+fn files_are_read_and_stored(rt: HostRuntime) -> Result<(), Fail> {
+    fs::write(&rt, "digits", "0123456789")?;
+    let mut vault = FileVault::new(&rt, rt.alloc());
+    let mut room = [0; 12];
+    for (place, asked, given) in [
+        (0, 12, "0123456789"),
+        (7, 12, "789"),
+        (2, 4, "2345"),
+        (10, 12, ""),
+        (99, 12, ""),
+    ] {
+        let count = vault.read_at("digits", place, &mut room[..asked])?;
+        assert!(rt; &room[..count] == given.as_bytes(), "from {place}");
+    }
+    let absent = vault.read_at("absent", 0, &mut room);
+    assert!(rt; matches!(absent, Err(OutsideError::Failed)));
+    assert_eq!(rt; vault.read_faults, 1);
+    assert!(rt; vault.failed.as_str() == "absent");
+    let mode = Permissions::from_mode(0o600);
+    fs::set_permissions(&rt, "digits", mode)?;
+    vault.store("digits", b"new")?;
+    assert!(rt; !fs::exists(&rt, "digits.part")?);
+    assert_eq!(rt;
+        fs::metadata(&rt, "digits")?.permissions().mode() % 0o1000,
+        0o600
+    );
+    let count = vault.read_at("digits", 0, &mut room)?;
+    assert!(rt; &room[..count] == b"new".as_slice());
+    let refused = vault.store("absent/digits", b"lost");
+    assert!(rt; matches!(refused, Err(OutsideError::Failed)));
+    assert_eq!(rt; vault.store_faults, 1);
+    assert!(rt; vault.store_failed.as_str() == "absent/digits");
+    let full = vault.store("/dev/full", b"lost");
+    assert!(rt; matches!(full, Err(OutsideError::Failed)));
+    vault.store("/dev/null", b"gone")?;
+    // A file in the way of the new one leaves the old one.
+    fs::write(&rt, "digits.part", "")?;
+    let in_the_way = vault.store("digits", b"newer");
+    assert!(rt; matches!(in_the_way, Err(OutsideError::Failed)));
+    let count = vault.read_at("digits", 0, &mut room)?;
+    assert!(rt; &room[..count] == b"new".as_slice());
+    assert_eq!(rt; vault.store_faults, 3);
+    fs::remove_file(&rt, "digits.part")?;
+    fs::remove_file(&rt, "digits")?;
+    Ok(())
+}
+
+// A device that has no room.
+struct Full;
+
+impl Print for Full {
+    fn print<D: Display + Drop>(&self, _value: D) -> io::Result<()> {
+        Err(io::Error::from(ErrorKind::StorageFull))
+    }
+
+    fn println<D: Display + Drop>(&self, _value: D) -> io::Result<()> {
+        Err(io::Error::from(ErrorKind::StorageFull))
+    }
+
+    fn write_all(&self, _bytes: &[u8]) -> io::Result<()> {
+        Err(io::Error::from(ErrorKind::StorageFull))
+    }
+
+    fn write_some(&self, _bytes: &[u8]) -> io::Result<usize> {
+        Ok(0)
+    }
+}
+
+#[test]
+fn puts_that_fail_are_counted(rt: HostRuntime) -> Result<(), Fail> {
+    let mut out = OutSink::new(&rt);
+    out.put(b"printed\n")?;
+    out.put(b"")?;
+    assert_eq!(rt; out.faults, 0);
+    let mut full = OutSink::new(&Full);
+    full.put(b"")?;
+    assert_eq!(rt; full.faults, 0);
+    assert!(rt; matches!(full.put(b"lost"), Err(OutsideError::Failed)));
+    assert_eq!(rt; full.faults, 1);
+    Ok(())
+}
