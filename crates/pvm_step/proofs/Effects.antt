@@ -5,7 +5,7 @@ use Rattle.std.specs.Prelude.{◌↔◌, nat_lt, if◌then◌else◌, is_some, u
 use Rattle.std.proofs.lemmas.Bool.Decides.{nat_tests}
 use Rattle.pvm_isa.specs.declared.op.Op.TheVariants.{Trap, Ecalli}
 use Rattle.pvm_isa.specs.Opcodes.{op_numbered}
-use Rattle.blob_decode.specs.Program.{Program, mask_bit, code_byte, op_at, next}
+use Rattle.blob_decode.specs.Program.{Program, mask_bit, code_byte, op_at, next, skip}
 use Rattle.paged_memory.specs.declared.rights.Rights.TheVariants as may
 use Rattle.paged_memory.specs.declared.access.Access.{Access}
 use Rattle.paged_memory.specs.declared.access.StoreRefusal.{StoreRefusal}
@@ -14,7 +14,12 @@ use Rattle.paged_memory.specs.PageMap.{Memory, refusal, put_bytes, bytes_of}
 use Rattle.pvm_step.specs.declared.exit.Exit.{Exit}
 use Rattle.pvm_step.specs.declared.exit.Exit.TheVariants.{Panic, OutOfGas}
 use Rattle.pvm_step.specs.History.{step}
-use Rattle.pvm_step.specs.Effect.{State, Stores, line, outcome, after, effect, goes, stops, stores, exit_of}
+use Rattle.pvm_isa.specs.declared.arguments.Args.{Args}
+use Rattle.pvm_isa.specs.declared.form.Form.{Form}
+use Rattle.pvm_isa.specs.declared.op.Op.{Op}
+use Rattle.pvm_isa.specs.Opcodes.{form_of}
+use Rattle.pvm_isa.specs.Arguments.{arguments}
+use Rattle.pvm_step.specs.Effect.{State, Act, Stores, line, outcome, after, effect, goes, stops, stores, exit_of}
 
 -- a store that is not refused, and one that is
 pub stored-at : (p : Program) (s : State) (width to value : ℕ) → refusal s.memory may.Write to width ≡ None
@@ -50,7 +55,7 @@ op_at-past p i past =
     let out : nat_lt i (length p.code) ≡ false = grind (arith, nat_tests) in
     ap (λ b. if b && mask_bit p i && is_some (op_numbered (code_byte p i)) then unwrap_or (op_numbered (code_byte p i)) Trap else Trap) out
 
-trap_panics : (p : Program) (s : State) → outcome Trap p s ≡ stops s Panic
+pub trap_panics : (p : Program) (s : State) → outcome Trap p s ≡ stops s Panic
 unfolding after outcome line
 trap_panics p s = refl
 
@@ -73,3 +78,11 @@ step-without p (suc gas) s none = absurd (omega arith)
 -- so a host call stands within the code
 pub within-ecalli : (p : Program) (i : ℕ) → op_at p i ≡ Ecalli → i < length p.code
 within-ecalli p i h = elim (cases_lt i (length p.code)) [ inl within ↦ within | inr past ↦ let t : op_at p i ≡ Trap = op_at-past p i (omega arith) in absurd (cc) ]
+
+-- what an opcode does, by its line and its form
+pub outcome_by : (op : Op) (form : Form) (act : Args → State → Act) (p : Program) (s : State) → line op ≡ act → form_of op ≡ form
+    → outcome op p s ≡ after p s (act (arguments form p.code s.pc (skip p s.pc)) s)
+unfolding outcome
+outcome_by op form act p s by_line by_form =
+    ap (λ (l : Args → State → Act). after p s (l (arguments (form_of op) p.code s.pc (skip p s.pc)) s)) by_line
+    ∙ ap (λ (f : Form). after p s (act (arguments f p.code s.pc (skip p s.pc)) s)) by_form

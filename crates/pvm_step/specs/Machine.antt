@@ -64,13 +64,6 @@ is_done Jumped = true
 is_done Panics = true
 is_done Beyond = false
 
--- what was done, or what was there before
-abbrev pub done_or : Went → After → After → After
-done_or On done before = done
-done_or Jumped done before = done
-done_or Panics done before = done
-done_or Beyond done before = before
-
 -- no heap, or one above the 16 lowest pages and within the 2 ^ 32 addresses
 abbrev pub IsHeap : ℕ → ℕ → Type 0
 IsHeap next end = ((next ≡ 0) × (end ≡ 0)) ⊎ ((65536 ≤ next) × (next ≤ end) × (end ≤ 2 ^ 32))

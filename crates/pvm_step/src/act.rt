@@ -1,9 +1,9 @@
 // What each opcode does. Each arm names its opcode, so that only the work of that one is left in it.
-ghost use Rattle.std.specs.Prelude.{◌≡◌, ◌<◌, ◌≤◌, false, None, length, IfOk, OnErr};
+ghost use Rattle.std.specs.Prelude.{◌≡◌, ◌<◌, ◌≤◌, true, false, length, IfOk, OnErr};
 ghost use Rattle.blob_decode.specs.Program as blob;
 ghost use Rattle.pvm_step.specs.Effect.{outcome};
 ghost use Rattle.pvm_step.specs.declared.went.Went.TheVariants.{On};
-ghost use Rattle.pvm_step.specs.Machine.{IsAt, state_of, after_of, exit_after, is_done, done_or};
+ghost use Rattle.pvm_step.specs.Machine.{IsAt, state_of, after_of, exit_after, is_done};
 ghost use Rattle.pvm_step.specs.Named.{on_registers};
 
 use crate::at::At;
@@ -16,10 +16,10 @@ use std::alloc::AllocError;
 impl Machine {
     /// Does the instruction of an opcode that works on the registers alone; of another it does nothing.
     #[inline(always)]
-    #[tactic(auto, unfolding(crate::specs::Effect::outcome, crate::specs::Effect::line, crate::specs::Effect::after, crate::specs::Named::on_registers, pvm_isa::specs::Opcodes::entry, pvm_alu::specs::Alu::binary_line, pvm_alu::specs::Alu::unary_line, pvm_alu::specs::Alu::test_line))]
+    #[tactic(auto, unfolding(crate::specs::Effect::line, crate::specs::Named::on_registers, pvm_isa::specs::Opcodes::entry, pvm_alu::specs::Alu::binary_line, pvm_alu::specs::Alu::unary_line, pvm_alu::specs::Alu::test_line))]
     pub(crate) fn act_on_registers(&mut self, at: At) -> Went
         requires at { IsAt at self.old }
-        ensures acts { after_of self.new (exit_after result) ≡ done_or result (outcome at.op self.old.program (state_of self.old)) (after_of self.old None) }
+        ensures acts { is_done result ≡ true → after_of self.new (exit_after result) ≡ outcome at.op self.old.program (state_of self.old) }
         ensures next { result ≡ On → self.new.pc ≡ blob.next self.old.program self.old.pc }
         ensures done { is_done result ≡ on_registers at.op }
         ensures same { result ≡ Went.Beyond → self.new ≡ self.old }

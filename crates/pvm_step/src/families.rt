@@ -3,11 +3,12 @@
 // that is cleared at each turn.
 ghost use Rattle.std.specs.Prelude.{◌≡◌, ◌<◌, ◌≤◌, IsTrue, true, length, IfOk, IsOk, OnErr};
 ghost use Rattle.pvm_isa.specs.Arguments.{IsWindow, arguments};
+ghost use Rattle.pvm_isa.specs.Opcodes.{form_of};
 ghost use Rattle.pvm_isa.specs.declared.form.Form.TheVariants.{F4, F6, F7, F8, F9, F10, F11, F13};
 ghost use Rattle.blob_decode.specs.Program as blob;
 ghost use Rattle.paged_memory.specs.PageMap.{is_width};
 ghost use Rattle.pvm_alu.specs.Alu as alu;
-ghost use Rattle.pvm_step.specs.Effect.{gives_of_a, gives_of_a_b, gives_of_b_x, loads_at_x, loads_at_b_x, stores_y_at_x, stores_a_at_x, stores_y_at_a_x, stores_a_at_b_x, branches_on_a_x, branches_on_a_b, after};
+ghost use Rattle.pvm_step.specs.Effect.{gives_of_a, gives_of_a_b, gives_of_b_x, loads_at_x, loads_at_b_x, stores_y_at_x, stores_a_at_x, stores_y_at_a_x, stores_a_at_b_x, branches_on_a_x, branches_on_a_b, line, after, outcome};
 ghost use Rattle.pvm_step.specs.declared.went.Went.TheVariants.{On};
 ghost use Rattle.pvm_step.specs.Machine.{IsAt, state_of, after_of, exit_after, is_done};
 
@@ -28,9 +29,11 @@ impl Machine {
     /// An operation with the values of two registers.
     #[inline(always)]
     pub(crate) fn give_of_a_b(&mut self, op: Op, at: At) -> Went
+        requires line { line op ≡ gives_of_a_b op }
+        requires form { form_of op ≡ F13 }
         requires operation { IsTrue (alu.is_binary op) }
         requires at { IsAt at self.old }
-        ensures acts { after_of self.new (exit_after result) ≡ after self.old.program (state_of self.old) (gives_of_a_b op (arguments F13 self.old.program.code self.old.pc at.skip) (state_of self.old)) }
+        ensures acts { after_of self.new (exit_after result) ≡ outcome op self.old.program (state_of self.old) }
         ensures next { result ≡ On → self.new.pc ≡ blob.next self.old.program self.old.pc }
         ensures done { is_done result ≡ true }
         ensures program { self.new.program ≡ self.old.program }
@@ -45,9 +48,11 @@ impl Machine {
     /// An operation with the value of a register and an immediate.
     #[inline(always)]
     pub(crate) fn give_of_b_x(&mut self, op: Op, at: At) -> Went
+        requires line { line op ≡ gives_of_b_x op }
+        requires form { form_of op ≡ F10 }
         requires operation { IsTrue (alu.is_binary op) }
         requires at { IsAt at self.old }
-        ensures acts { after_of self.new (exit_after result) ≡ after self.old.program (state_of self.old) (gives_of_b_x op (arguments F10 self.old.program.code self.old.pc at.skip) (state_of self.old)) }
+        ensures acts { after_of self.new (exit_after result) ≡ outcome op self.old.program (state_of self.old) }
         ensures next { result ≡ On → self.new.pc ≡ blob.next self.old.program self.old.pc }
         ensures done { is_done result ≡ true }
         ensures program { self.new.program ≡ self.old.program }
@@ -62,9 +67,11 @@ impl Machine {
     /// An operation with the value of a register.
     #[inline(always)]
     pub(crate) fn give_of_a(&mut self, op: Op, at: At) -> Went
+        requires line { line op ≡ gives_of_a op }
+        requires form { form_of op ≡ F9 }
         requires operation { IsTrue (alu.is_unary op) }
         requires at { IsAt at self.old }
-        ensures acts { after_of self.new (exit_after result) ≡ after self.old.program (state_of self.old) (gives_of_a op (arguments F9 self.old.program.code self.old.pc at.skip) (state_of self.old)) }
+        ensures acts { after_of self.new (exit_after result) ≡ outcome op self.old.program (state_of self.old) }
         ensures next { result ≡ On → self.new.pc ≡ blob.next self.old.program self.old.pc }
         ensures done { is_done result ≡ true }
         ensures program { self.new.program ≡ self.old.program }
@@ -194,13 +201,15 @@ impl Machine {
     /// A branch on the value of a register and an immediate.
     #[inline(never)]
     pub(crate) fn branch_on_a_x(&mut self, op: Op, pc: u64, skip: u8, bytes: u64) -> Went
+        requires line { line op ≡ branches_on_a_x op }
+        requires form { form_of op ≡ F8 }
         requires operation { IsTrue (alu.is_test op) }
         requires here { pc ≡ self.old.pc }
         requires within { self.old.pc < length self.old.program.code }
         requires skip { skip ≡ blob.skip self.old.program self.old.pc }
         requires short { skip ≤ 24 }
         requires window { IsWindow self.old.program.code self.old.pc bytes }
-        ensures acts { after_of self.new (exit_after result) ≡ after self.old.program (state_of self.old) (branches_on_a_x op (arguments F8 self.old.program.code self.old.pc skip) (state_of self.old)) }
+        ensures acts { after_of self.new (exit_after result) ≡ outcome op self.old.program (state_of self.old) }
         ensures next { result ≡ On → self.new.pc ≡ blob.next self.old.program self.old.pc }
         ensures done { is_done result ≡ true }
         ensures program { self.new.program ≡ self.old.program }
@@ -215,13 +224,15 @@ impl Machine {
     /// A branch on the values of two registers.
     #[inline(never)]
     pub(crate) fn branch_on_a_b(&mut self, op: Op, pc: u64, skip: u8, bytes: u64) -> Went
+        requires line { line op ≡ branches_on_a_b op }
+        requires form { form_of op ≡ F11 }
         requires operation { IsTrue (alu.is_test op) }
         requires here { pc ≡ self.old.pc }
         requires within { self.old.pc < length self.old.program.code }
         requires skip { skip ≡ blob.skip self.old.program self.old.pc }
         requires short { skip ≤ 24 }
         requires window { IsWindow self.old.program.code self.old.pc bytes }
-        ensures acts { after_of self.new (exit_after result) ≡ after self.old.program (state_of self.old) (branches_on_a_b op (arguments F11 self.old.program.code self.old.pc skip) (state_of self.old)) }
+        ensures acts { after_of self.new (exit_after result) ≡ outcome op self.old.program (state_of self.old) }
         ensures next { result ≡ On → self.new.pc ≡ blob.next self.old.program self.old.pc }
         ensures done { is_done result ≡ true }
         ensures program { self.new.program ≡ self.old.program }

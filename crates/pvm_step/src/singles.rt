@@ -1,10 +1,11 @@
 // Instructions of one opcode each.
-ghost use Rattle.std.specs.Prelude.{◌≡◌, ◌<◌, ◌≤◌, ◌+◌, ◌==◌, not, true, length, IfOk, IsOk, OnErr};
+ghost use Rattle.std.specs.Prelude.{◌≡◌, ◌<◌, ◌≤◌, ◌+◌, true, length, IfOk, IsOk, OnErr};
 ghost use Rattle.pvm_isa.specs.Arguments.{arguments};
-ghost use Rattle.pvm_isa.specs.declared.form.Form.TheVariants.{F2, F3, F5, F6, F8, F9, F10, F12, F13};
+ghost use Rattle.pvm_isa.specs.declared.form.Form.TheVariants.{F2, F6, F9, F12};
+ghost use Rattle.pvm_isa.specs.declared.op.Op.TheVariants.{Fallthrough, LoadImm64, Jump, LoadImm, LoadImmJump, MoveReg, CmovIzImm, CmovNzImm, CmovIz, CmovNz};
 ghost use Rattle.blob_decode.specs.Program as blob;
 ghost use Rattle.pvm_step.specs.declared.exit.Exit.TheVariants.{Host};
-ghost use Rattle.pvm_step.specs.Effect.{Nothing, Exits, Gives, Jumps, JumpsThrough, GivesAndJumps, GivesAndJumpsThrough, Moves, Grows, after, address, value_in};
+ghost use Rattle.pvm_step.specs.Effect.{Exits, JumpsThrough, GivesAndJumpsThrough, Grows, after, address, value_in, outcome};
 ghost use Rattle.pvm_step.specs.declared.went.Went.TheVariants.{On};
 ghost use Rattle.pvm_step.specs.Machine.{IsAt, state_of, after_of, exit_after, is_done};
 
@@ -23,10 +24,10 @@ use std::alloc::AllocError;
 impl Machine {
     /// Nothing.
     #[inline(always)]
-    #[tactic(auto, unfolding(crate::specs::Effect::after))]
+    #[tactic(auto, unfolding(crate::specs::Effect::outcome, crate::specs::Effect::line, crate::specs::Effect::after, pvm_isa::specs::Opcodes::entry))]
     pub(crate) fn fall_through(&mut self, at: At) -> Went
         requires at { IsAt at self.old }
-        ensures acts { after_of self.new (exit_after result) ≡ after self.old.program (state_of self.old) (Nothing) }
+        ensures acts { after_of self.new (exit_after result) ≡ outcome Fallthrough self.old.program (state_of self.old) }
         ensures next { result ≡ On → self.new.pc ≡ blob.next self.old.program self.old.pc }
         ensures done { is_done result ≡ true }
         ensures program { self.new.program ≡ self.old.program }
@@ -54,12 +55,13 @@ impl Machine {
 
     /// An immediate of 64 bits.
     #[inline(never)]
+    #[tactic(auto, unfolding(crate::specs::Effect::outcome, crate::specs::Effect::line, pvm_isa::specs::Opcodes::entry))]
     pub(crate) fn load_imm_64(&mut self, pc: u64, skip: u8) -> Went
         requires here { pc ≡ self.old.pc }
         requires within { self.old.pc < length self.old.program.code }
         requires skip { skip ≡ blob.skip self.old.program self.old.pc }
         requires short { skip ≤ 24 }
-        ensures acts { after_of self.new (exit_after result) ≡ after self.old.program (state_of self.old) (Gives (arguments F3 self.old.program.code self.old.pc skip).a (arguments F3 self.old.program.code self.old.pc skip).x) }
+        ensures acts { after_of self.new (exit_after result) ≡ outcome LoadImm64 self.old.program (state_of self.old) }
         ensures next { result ≡ On → self.new.pc ≡ blob.next self.old.program self.old.pc }
         ensures done { is_done result ≡ true }
         ensures program { self.new.program ≡ self.old.program }
@@ -73,12 +75,13 @@ impl Machine {
 
     /// An immediate.
     #[inline(never)]
+    #[tactic(auto, unfolding(crate::specs::Effect::outcome, crate::specs::Effect::line, pvm_isa::specs::Opcodes::entry))]
     pub(crate) fn load_imm(&mut self, pc: u64, skip: u8) -> Went
         requires here { pc ≡ self.old.pc }
         requires within { self.old.pc < length self.old.program.code }
         requires skip { skip ≡ blob.skip self.old.program self.old.pc }
         requires short { skip ≤ 24 }
-        ensures acts { after_of self.new (exit_after result) ≡ after self.old.program (state_of self.old) (Gives (arguments F6 self.old.program.code self.old.pc skip).a (arguments F6 self.old.program.code self.old.pc skip).x) }
+        ensures acts { after_of self.new (exit_after result) ≡ outcome LoadImm self.old.program (state_of self.old) }
         ensures next { result ≡ On → self.new.pc ≡ blob.next self.old.program self.old.pc }
         ensures done { is_done result ≡ true }
         ensures program { self.new.program ≡ self.old.program }
@@ -92,9 +95,10 @@ impl Machine {
 
     /// A register's value.
     #[inline(always)]
+    #[tactic(auto, unfolding(crate::specs::Effect::outcome, crate::specs::Effect::line, pvm_isa::specs::Opcodes::entry))]
     pub(crate) fn move_reg(&mut self, at: At) -> Went
         requires at { IsAt at self.old }
-        ensures acts { after_of self.new (exit_after result) ≡ after self.old.program (state_of self.old) (Gives (arguments F9 self.old.program.code self.old.pc at.skip).d (value_in (state_of self.old) (arguments F9 self.old.program.code self.old.pc at.skip).a)) }
+        ensures acts { after_of self.new (exit_after result) ≡ outcome MoveReg self.old.program (state_of self.old) }
         ensures next { result ≡ On → self.new.pc ≡ blob.next self.old.program self.old.pc }
         ensures done { is_done result ≡ true }
         ensures program { self.new.program ≡ self.old.program }
@@ -125,12 +129,13 @@ impl Machine {
 
     /// An immediate where a register is 0.
     #[inline(never)]
+    #[tactic(auto, unfolding(crate::specs::Effect::outcome, crate::specs::Effect::line, pvm_isa::specs::Opcodes::entry))]
     pub(crate) fn cmov_iz_imm(&mut self, pc: u64, skip: u8) -> Went
         requires here { pc ≡ self.old.pc }
         requires within { self.old.pc < length self.old.program.code }
         requires skip { skip ≡ blob.skip self.old.program self.old.pc }
         requires short { skip ≤ 24 }
-        ensures acts { after_of self.new (exit_after result) ≡ after self.old.program (state_of self.old) (Moves ((value_in (state_of self.old) (arguments F10 self.old.program.code self.old.pc skip).b) == 0) (arguments F10 self.old.program.code self.old.pc skip).a (arguments F10 self.old.program.code self.old.pc skip).x) }
+        ensures acts { after_of self.new (exit_after result) ≡ outcome CmovIzImm self.old.program (state_of self.old) }
         ensures next { result ≡ On → self.new.pc ≡ blob.next self.old.program self.old.pc }
         ensures done { is_done result ≡ true }
         ensures program { self.new.program ≡ self.old.program }
@@ -145,12 +150,13 @@ impl Machine {
 
     /// An immediate where a register is not 0.
     #[inline(never)]
+    #[tactic(auto, unfolding(crate::specs::Effect::outcome, crate::specs::Effect::line, pvm_isa::specs::Opcodes::entry))]
     pub(crate) fn cmov_nz_imm(&mut self, pc: u64, skip: u8) -> Went
         requires here { pc ≡ self.old.pc }
         requires within { self.old.pc < length self.old.program.code }
         requires skip { skip ≡ blob.skip self.old.program self.old.pc }
         requires short { skip ≤ 24 }
-        ensures acts { after_of self.new (exit_after result) ≡ after self.old.program (state_of self.old) (Moves (not ((value_in (state_of self.old) (arguments F10 self.old.program.code self.old.pc skip).b) == 0)) (arguments F10 self.old.program.code self.old.pc skip).a (arguments F10 self.old.program.code self.old.pc skip).x) }
+        ensures acts { after_of self.new (exit_after result) ≡ outcome CmovNzImm self.old.program (state_of self.old) }
         ensures next { result ≡ On → self.new.pc ≡ blob.next self.old.program self.old.pc }
         ensures done { is_done result ≡ true }
         ensures program { self.new.program ≡ self.old.program }
@@ -165,9 +171,10 @@ impl Machine {
 
     /// A register's value where another is 0.
     #[inline(always)]
+    #[tactic(auto, unfolding(crate::specs::Effect::outcome, crate::specs::Effect::line, pvm_isa::specs::Opcodes::entry))]
     pub(crate) fn cmov_iz(&mut self, at: At) -> Went
         requires at { IsAt at self.old }
-        ensures acts { after_of self.new (exit_after result) ≡ after self.old.program (state_of self.old) (Moves ((value_in (state_of self.old) (arguments F13 self.old.program.code self.old.pc at.skip).b) == 0) (arguments F13 self.old.program.code self.old.pc at.skip).d (value_in (state_of self.old) (arguments F13 self.old.program.code self.old.pc at.skip).a)) }
+        ensures acts { after_of self.new (exit_after result) ≡ outcome CmovIz self.old.program (state_of self.old) }
         ensures next { result ≡ On → self.new.pc ≡ blob.next self.old.program self.old.pc }
         ensures done { is_done result ≡ true }
         ensures program { self.new.program ≡ self.old.program }
@@ -182,9 +189,10 @@ impl Machine {
 
     /// A register's value where another is not 0.
     #[inline(always)]
+    #[tactic(auto, unfolding(crate::specs::Effect::outcome, crate::specs::Effect::line, pvm_isa::specs::Opcodes::entry))]
     pub(crate) fn cmov_nz(&mut self, at: At) -> Went
         requires at { IsAt at self.old }
-        ensures acts { after_of self.new (exit_after result) ≡ after self.old.program (state_of self.old) (Moves (not ((value_in (state_of self.old) (arguments F13 self.old.program.code self.old.pc at.skip).b) == 0)) (arguments F13 self.old.program.code self.old.pc at.skip).d (value_in (state_of self.old) (arguments F13 self.old.program.code self.old.pc at.skip).a)) }
+        ensures acts { after_of self.new (exit_after result) ≡ outcome CmovNz self.old.program (state_of self.old) }
         ensures next { result ≡ On → self.new.pc ≡ blob.next self.old.program self.old.pc }
         ensures done { is_done result ≡ true }
         ensures program { self.new.program ≡ self.old.program }
@@ -199,13 +207,13 @@ impl Machine {
 
     /// A jump.
     #[inline(never)]
-    #[tactic(auto, unfolding(crate::specs::Effect::after))]
+    #[tactic(auto, unfolding(crate::specs::Effect::outcome, crate::specs::Effect::line, crate::specs::Effect::after, pvm_isa::specs::Opcodes::entry))]
     pub(crate) fn jump_on(&mut self, pc: u64, skip: u8) -> Went
         requires here { pc ≡ self.old.pc }
         requires within { self.old.pc < length self.old.program.code }
         requires skip { skip ≡ blob.skip self.old.program self.old.pc }
         requires short { skip ≤ 24 }
-        ensures acts { after_of self.new (exit_after result) ≡ after self.old.program (state_of self.old) (Jumps (arguments F5 self.old.program.code self.old.pc skip).target) }
+        ensures acts { after_of self.new (exit_after result) ≡ outcome Jump self.old.program (state_of self.old) }
         ensures next { result ≡ On → self.new.pc ≡ blob.next self.old.program self.old.pc }
         ensures done { is_done result ≡ true }
         ensures program { self.new.program ≡ self.old.program }
@@ -234,13 +242,13 @@ impl Machine {
 
     /// A jump, after a register got an immediate.
     #[inline(never)]
-    #[tactic(auto, unfolding(crate::specs::Effect::after))]
+    #[tactic(auto, unfolding(crate::specs::Effect::outcome, crate::specs::Effect::line, crate::specs::Effect::after, pvm_isa::specs::Opcodes::entry))]
     pub(crate) fn load_imm_jump(&mut self, pc: u64, skip: u8) -> Went
         requires here { pc ≡ self.old.pc }
         requires within { self.old.pc < length self.old.program.code }
         requires skip { skip ≡ blob.skip self.old.program self.old.pc }
         requires short { skip ≤ 24 }
-        ensures acts { after_of self.new (exit_after result) ≡ after self.old.program (state_of self.old) (GivesAndJumps (arguments F8 self.old.program.code self.old.pc skip).a (arguments F8 self.old.program.code self.old.pc skip).x (arguments F8 self.old.program.code self.old.pc skip).target) }
+        ensures acts { after_of self.new (exit_after result) ≡ outcome LoadImmJump self.old.program (state_of self.old) }
         ensures next { result ≡ On → self.new.pc ≡ blob.next self.old.program self.old.pc }
         ensures done { is_done result ≡ true }
         ensures program { self.new.program ≡ self.old.program }
