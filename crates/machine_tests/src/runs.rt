@@ -17,6 +17,14 @@ const GROWS: [u8; 16] = [
     0, 0, 11, 0x33, 0, 0x88, 0x13, 0x65, 0x01, 0x7b, 0x10, 0x82, 0x12, 0, 0x51, 0x05,
 ];
 
+// load_imm r0, 20480; sbrk r1, r0; store_ind_u8 r0 at r1 and at each of the four pages after it; load_ind_u8 r2 from
+// the last; trap.
+const FIVE_PAGES: [u8; 36] = [
+    0x00, 0x00, 0x1d, 0x33, 0x00, 0x00, 0x50, 0x65, 0x01, 0x78, 0x10, 0x78, 0x10, 0x00, 0x10, 0x78,
+    0x10, 0x00, 0x20, 0x78, 0x10, 0x00, 0x30, 0x78, 0x10, 0x00, 0x40, 0x7c, 0x12, 0x00, 0x40, 0x00,
+    0x51, 0x11, 0x11, 0x11,
+];
+
 fn machine(alloc: Global, blob: &[u8], gas: u64) -> Result<Machine, Fail> {
     let program = Program::deblob(alloc, blob)?;
     Ok(Machine::raw(alloc, Rc::new(alloc, program)?, 0, gas))
@@ -101,5 +109,17 @@ fn a_host_call_is_passed(rt: HostRuntime) -> Result<(), Fail> {
         machine.pass_ecalli();
     }
     assert_eq!(rt; (machine.pc, machine.ledger.left()), (2, 9));
+    Ok(())
+}
+
+// tests/failing-stores runs it with each allocation failing in turn.
+#[test]
+fn five_pages_are_stored_to(rt: HostRuntime) -> Result<(), Fail> {
+    let mut grown = machine(rt.alloc(), &FIVE_PAGES, 100)?;
+    grown.heap = Heap::new(65_536, 1 << 20);
+    assert_eq!(rt; grown.run(100)?, Progress::Ended(Exit::Panic));
+    assert_eq!(rt; (grown.pc, grown.ledger.left()), (28, 91));
+    assert_eq!(rt; (grown.registers[1], grown.registers[2]), (65_536, 0));
+    assert_eq!(rt; grown.heap.next(), 86_016);
     Ok(())
 }
