@@ -1,0 +1,11 @@
+//! Tests of the files of the system and of standard output.
+#![tactic(auto)]
+
+#[cfg(test)]
+mod adapters;
+#[cfg(test)]
+mod reads;
+#[cfg(test)]
+mod stores;
+#[cfg(test)]
+mod watched;
