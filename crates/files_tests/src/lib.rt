@@ -1,4 +1,4 @@
-//! Tests of the files of the system and of standard output.
+//! Tests of the files of the system, of standard output and of the words of the command line.
 #![tactic(auto)]
 
 #[cfg(test)]
@@ -9,3 +9,5 @@ mod reads;
 mod stores;
 #[cfg(test)]
 mod watched;
+#[cfg(test)]
+mod words;

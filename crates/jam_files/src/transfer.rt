@@ -1,11 +1,17 @@
 // Transfers of bytes, by calls that may be interrupted and may move less than they are asked to.
-ghost use Rattle.std.specs.Prelude.{◌≡◌, ◌≢◌, ◌<◌, ◌≤◌, length, take, IfOk, IfErr, OnOk, OnErr};
+ghost use Rattle.std.specs.Prelude.{◌≡◌, ◌≢◌, ◌↔◌, ◌<◌, ◌≤◌, length, take, IsTrue, IfOk, IfErr, OnOk, OnErr};
 ghost use Rattle.std.specs.Io.KnownBytes.{Appends, Consumes, IsAtEnd, Keeps};
 ghost use Rattle.std.specs.IoError.{error_kind};
 ghost use Rattle.jam_files.specs.Transfers.{AppendsPart};
 
 use std::io;
 use std::io::{ErrorKind, Read, Write};
+
+fn is_interrupted(error: &io::Error) -> bool
+    ensures { IsTrue result ↔ (error_kind error.now ≡ ErrorKind.Interrupted) }
+{
+    error.kind() == ErrorKind::Interrupted
+}
 
 /// Reads once, again as often as the call is interrupted, and answers how many bytes were given.
 /// None is the end.
@@ -23,7 +29,7 @@ pub fn read_some<R: Read>(from: &mut R, buf: &mut [u8]) -> io::Result<usize>
     'tries: for _ in 0..u64::MAX {
         match from.read(buf) {
             Ok(given) => return Ok(given),
-            Err(e) if e.kind() == ErrorKind::Interrupted => {}
+            Err(e) if is_interrupted(&e) => {}
             Err(e) => return Err(e),
         }
     }
@@ -40,7 +46,7 @@ fn write_some<W: Write>(to: &mut W, bytes: &[u8]) -> io::Result<usize>
     'tries: for _ in 0..u64::MAX {
         match to.write(bytes) {
             Ok(taken) => return Ok(taken),
-            Err(e) if e.kind() == ErrorKind::Interrupted => {}
+            Err(e) if is_interrupted(&e) => {}
             Err(e) => return Err(e),
         }
     }
