@@ -3,8 +3,7 @@ ghost use Rattle.std.specs.Prelude.{◌≡◌, ◌⊎◌, IfErr};
 ghost use Rattle.jam_cli.specs.declared.status.Status.TheVariants.{NoMemory, BadWords};
 
 use jam_cli::Status;
-use jam_files::is_out_of_memory;
-use std::env;
+use jam_files::{is_out_of_memory, words_after_name};
 
 /// The words after the program's name.
 ///
@@ -14,8 +13,8 @@ use std::env;
 pub fn words_of(rt: &HostRuntime) -> Result<Vec<String>, Status>
     ensures { IfErr result (λ status. (status ≡ NoMemory) ⊎ (status ≡ BadWords)) }
 {
-    match env::args(rt) {
-        Ok(words) => Ok(words.skip(1).collect(rt.alloc())?),
+    match words_after_name(rt, rt.alloc()) {
+        Ok(words) => Ok(words),
         Err(e) if is_out_of_memory(&e) => Err(Status::NoMemory),
         Err(_) => Err(Status::BadWords),
     }

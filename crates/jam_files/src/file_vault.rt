@@ -1,24 +1,32 @@
 // The files of the system as a vault.
-ghost use Rattle.std.specs.Prelude.{◌≡◌, ◌≤◌, length, IfOk};
+ghost use Rattle.std.specs.Prelude.{◌≡◌, ◌≤◌, length, string_bytes, IfOk};
 ghost use Rattle.jam_files.specs.Devices.{no_faults, files_state};
 
+use crate::file_id::{FileId, keeps_bytes};
 use crate::memory::is_out_of_memory;
-use crate::transfer::fill;
+use crate::reading::{Reading, read_on};
 use crate::whole_file::write_whole;
 use jam_outside::{OutsideError, Vault};
 use std::alloc::Global;
-use std::io::{Seek, SeekFrom};
+use std::fs::OpenFile;
 use std::marker::Model;
 use std::rt::Files;
 use std::{fs, io};
 
 /// The files of the system, by their paths. It tells nothing of what they hold, but which calls
-/// failed: a read does of a name that is not there or is a folder's. The counts stand still at
-/// their type's end.
+/// failed: a read does of a name that is not there or is a folder's, and a store does where the
+/// file is one that was read. The counts stand still at their type's end.
+///
+/// A file stays open from one read to the next where that goes on in it, so that a whole read is of
+/// the one file that was opened, and a pipe can be read.
 #[derive(Drop)]
 pub struct FileVault<'a, R: Files> {
     rt: &'a R,
     alloc: Global,
+    /// The file that was read last, until its end.
+    reading: Option<Reading<R::File>>,
+    /// The files that were read and keep their bytes.
+    inputs: Vec<FileId>,
     /// How many reads failed.
     pub read_faults: u64,
     /// The name of the last read that failed, at first empty.
@@ -46,27 +54,54 @@ impl<'a, R: Files> FileVault<'a, R> {
         FileVault {
             rt,
             alloc,
+            reading: None,
+            inputs: Vec::new(alloc),
             read_faults: 0,
             failed: String::new(alloc),
             store_faults: 0,
             store_failed: String::new(alloc),
         }
     }
-}
 
-fn read_part<R: Files>(rt: &R, name: &str, place: u64, buf: &mut [u8]) -> io::Result<usize>
-    ensures fits { IfOk result (λ n. n ≤ length buf.new) }
-{
-    let mut file = fs::open(rt, name)?;
-    file.seek(SeekFrom::Start(place))?;
-    fill(&mut file, buf)
+    // Opens a file and keeps which it is.
+    fn open(&mut self, name: &str) -> io::Result<R::File>
+        ensures { self.new ≡ self.old }
+    {
+        let file = fs::open(self.rt, name)?;
+        let metadata = file.metadata()?;
+        if keeps_bytes(&metadata) {
+            self.inputs.push(FileId::of(&metadata))?;
+        }
+        Ok(file)
+    }
+
+    // The file at the place: the one that is open where the read goes on there, and else that of
+    // the name as it is now.
+    fn reading_at(&mut self, name: &str, place: u64) -> io::Result<Reading<R::File>>
+        ensures same { self.new ≡ self.old }
+        ensures name { IfOk result (λ r. string_bytes r.name ≡ name.now) }
+        ensures place { IfOk result (λ r. r.place ≡ place) }
+    {
+        match self.reading.take() {
+            Some(reading) if reading.goes_on(name, place) => Ok(reading),
+            _ => Reading::begin(self.alloc, name, place, self.open(name)?),
+        }
+    }
+
+    fn read_part(&mut self, name: &str, place: u64, buf: &mut [u8]) -> io::Result<usize>
+        ensures same { self.new ≡ self.old }
+        ensures fits { IfOk result (λ n. n ≤ length buf.new) }
+    {
+        let reading = self.reading_at(name, place)?;
+        read_on(reading, &mut self.reading, buf)
+    }
 }
 
 impl<'a, R: Files> Vault for FileVault<'a, R> {
     ghost state = { files_state };
 
     fn read_at(&mut self, name: &str, place: u64, buf: &mut [u8]) -> Result<usize, OutsideError> {
-        match read_part(self.rt, name, place, buf) {
+        match self.read_part(name, place, buf) {
             Ok(count) => Ok(count),
             Err(e) if is_out_of_memory(&e) => Err(OutsideError::NoMemory),
             Err(_) => {
@@ -78,7 +113,7 @@ impl<'a, R: Files> Vault for FileVault<'a, R> {
     }
 
     fn store(&mut self, name: &str, bytes: &[u8]) -> Result<(), OutsideError> {
-        match write_whole(self.rt, self.alloc, name, bytes) {
+        match write_whole(self.rt, self.alloc, &self.inputs, name, bytes) {
             Ok(()) => Ok(()),
             Err(e) if is_out_of_memory(&e) => Err(OutsideError::NoMemory),
             Err(_) => {

@@ -1,7 +1,5 @@
-//! Tests of whole calls, and of the files of the system and standard output.
+//! Tests of whole calls.
 #![tactic(auto)]
 
-#[cfg(test)]
-mod adapters;
 #[cfg(test)]
 mod calls;
