@@ -1,26 +1,35 @@
 //! Footprints, look-ups, copies and orders by hand.
-use jam_accounts::{Account, Accounts, Lookups, Preimages, State, Storage, fits, threshold};
+use jam_accounts::{
+    Account, Accounts, Footprint, Lookups, Preimages, State, Storage, fits, threshold,
+};
 use preimage_store::History;
 use std::alloc::{AllocError, Global};
-use std::test::Fail;
+
+// The preimages "abc" and "abd".
+fn two_preimages(alloc: Global) -> Result<Preimages, AllocError> {
+    let mut preimages = Preimages::new(alloc);
+    let first = Vec::from_slice(alloc, b"abc")?;
+    preimages.put(first)?;
+    let second = Vec::from_slice(alloc, b"abd")?;
+    preimages.put(second)?;
+    Ok(preimages)
+}
 
 // An account with these, the preimages "abc" and "abd", and no balance of note.
-fn account_of(alloc: Global, storage: &Storage, lookups: &Lookups) -> Result<Account, Fail> {
+fn account_of(alloc: Global, storage: &Storage, lookups: &Lookups) -> Result<Account, AllocError> {
     let storage = storage.copy()?;
     let lookups = lookups.copy()?;
-    let mut preimages = Preimages::new(alloc);
-    for bytes in [b"abc", b"abd"] {
-        preimages.put(Vec::from_slice(alloc, bytes)?)?;
-    }
+    let preimages = two_preimages(alloc)?;
     if !fits(&storage, &lookups) {
-        return Err(Fail::from(AllocError));
+        return Err(AllocError);
     }
     Ok(Account::new([1; 32], 9, 2, 3, storage, preimages, lookups))
 }
 
-fn put(alloc: Global, storage: &mut Storage, key: &[u8], value: &[u8]) -> Result<(), Fail> {
-    storage.put(Vec::from_slice(alloc, key)?, Vec::from_slice(alloc, value)?)?;
-    Ok(())
+fn put(alloc: Global, storage: &mut Storage, key: &[u8], value: &[u8]) -> Result<(), AllocError> {
+    let key = Vec::from_slice(alloc, key)?;
+    let value = Vec::from_slice(alloc, value)?;
+    storage.put(key, value)
 }
 
 fn put_slots(
@@ -28,16 +37,25 @@ fn put_slots(
     hash: &[u8; 32],
     length: u32,
     slots: &[u32],
-) -> Result<(), Fail> {
-    let Some(history) = History::of(slots) else {
-        return Err(Fail::from(AllocError));
-    };
-    lookups.put(hash, length, history)?;
-    Ok(())
+) -> Result<(), AllocError> {
+    match History::of(slots) {
+        Some(history) => lookups.put(hash, length, history),
+        None => Err(AllocError),
+    }
+}
+
+// What an account with these values and lookups takes up.
+fn footprint_of(
+    alloc: Global,
+    storage: &Storage,
+    lookups: &Lookups,
+) -> Result<Footprint, AllocError> {
+    let account = account_of(alloc, storage, lookups)?;
+    Ok(account.footprint())
 }
 
 #[test]
-fn an_account_takes_up_what_its_maps_do(rt: HostRuntime) -> Result<(), Fail> {
+fn an_account_takes_up_what_its_maps_do(rt: HostRuntime) -> Result<(), AllocError> {
     let alloc = rt.alloc();
     let mut storage = Storage::new(alloc);
     let mut lookups = Lookups::new(alloc);
@@ -49,7 +67,7 @@ fn an_account_takes_up_what_its_maps_do(rt: HostRuntime) -> Result<(), Fail> {
     for (key, value, length, items, octets, needed) in steps {
         put(alloc, &mut storage, key, value)?;
         put_slots(&mut lookups, &[7; 32], length, &[])?;
-        let footprint = account_of(alloc, &storage, &lookups)?.footprint();
+        let footprint = footprint_of(alloc, &storage, &lookups)?;
         assert_eq!(rt; footprint.items(), items, "for {needed}");
         assert_eq!(rt; footprint.octets(), octets, "for {needed}");
         assert_eq!(rt; threshold(footprint), needed);
@@ -58,7 +76,7 @@ fn an_account_takes_up_what_its_maps_do(rt: HostRuntime) -> Result<(), Fail> {
 }
 
 #[test]
-fn a_preimage_is_found_while_it_is_available(rt: HostRuntime) -> Result<(), Fail> {
+fn a_preimage_is_found_while_it_is_available(rt: HostRuntime) -> Result<(), AllocError> {
     let alloc = rt.alloc();
     let hash = blake2b_core::digest(b"abc");
     let other = blake2b_core::digest(b"abd");
@@ -83,17 +101,18 @@ fn a_preimage_is_found_while_it_is_available(rt: HostRuntime) -> Result<(), Fail
 }
 
 #[test]
-fn a_copy_is_equal_and_apart(rt: HostRuntime) -> Result<(), Fail> {
+fn a_copy_is_equal_and_apart(rt: HostRuntime) -> Result<(), AllocError> {
     let alloc = rt.alloc();
     let mut storage = Storage::new(alloc);
     put(alloc, &mut storage, b"ab", b"cde")?;
     let mut lookups = Lookups::new(alloc);
     put_slots(&mut lookups, &[7; 32], 5, &[1, 2])?;
+    let account = account_of(alloc, &storage, &lookups)?;
     let mut accounts = Accounts::new(alloc);
-    accounts.put(6, account_of(alloc, &storage, &lookups)?)?;
+    accounts.put(6, account)?;
     let state = State::new(4, [5; 32], accounts).copy()?;
     let Some(first) = state.accounts.get(6) else {
-        return Err(Fail::from(AllocError));
+        return Err(AllocError);
     };
     let mut copy = first.copy()?;
     copy.remove_value(b"ab");
@@ -106,7 +125,7 @@ fn a_copy_is_equal_and_apart(rt: HostRuntime) -> Result<(), Fail> {
 }
 
 #[test]
-fn entries_come_in_order(rt: HostRuntime) -> Result<(), Fail> {
+fn entries_come_in_order(rt: HostRuntime) -> Result<(), AllocError> {
     let alloc = rt.alloc();
     let mut storage = Storage::new(alloc);
     let mut lookups = Lookups::new(alloc);
@@ -127,15 +146,29 @@ fn entries_come_in_order(rt: HostRuntime) -> Result<(), Fail> {
     Ok(())
 }
 
-#[test]
-fn a_preimage_is_received_where_it_is_awaited(rt: HostRuntime) -> Result<(), Fail> {
-    let alloc = rt.alloc();
+// An account that awaits "xyz". It has had "uvw", and awaits other bytes of the digest of "rst".
+fn awaiting_account(alloc: Global) -> Result<Account, AllocError> {
     let mut lookups = Lookups::new(alloc);
-    let awaited = blake2b_core::digest(b"xyz");
-    put_slots(&mut lookups, &awaited, 3, &[])?;
+    put_slots(&mut lookups, &blake2b_core::digest(b"xyz"), 3, &[])?;
     put_slots(&mut lookups, &blake2b_core::digest(b"uvw"), 3, &[5])?;
     put_slots(&mut lookups, &blake2b_core::digest(b"rst"), 4, &[])?;
-    let mut account = account_of(alloc, &Storage::new(alloc), &lookups)?;
+    account_of(alloc, &Storage::new(alloc), &lookups)
+}
+
+// Whether bytes that come at slot 9 are stored, and how many preimages there are then.
+fn received(
+    alloc: Global,
+    account: &mut Account,
+    bytes: &[u8],
+) -> Result<(bool, usize), AllocError> {
+    let stored = account.receive(alloc, bytes, 9)?;
+    Ok((stored, account.preimages.len()))
+}
+
+#[test]
+fn a_preimage_is_received_where_it_is_awaited(rt: HostRuntime) -> Result<(), AllocError> {
+    let alloc = rt.alloc();
+    let mut account = awaiting_account(alloc)?;
     let rows: [(&[u8], bool, usize); 5] = [
         (b"uvw", false, 2),
         (b"rst", false, 2),
@@ -144,12 +177,12 @@ fn a_preimage_is_received_where_it_is_awaited(rt: HostRuntime) -> Result<(), Fai
         (b"", false, 3),
     ];
     for (bytes, stored, kept) in rows {
-        assert_eq!(rt; account.receive(alloc, bytes, 9)?, stored);
-        assert_eq!(rt; account.preimages.len(), kept);
+        let answer = received(alloc, &mut account, bytes)?;
+        assert_eq!(rt; answer, (stored, kept));
     }
-    let history = account.lookups.get(&awaited, 3).ok_or("a history")?;
-    assert_eq!(rt; history.slots(), [9].as_slice());
-    let bytes = account.preimages.get(&awaited).ok_or("a preimage")?;
-    assert_eq!(rt; bytes, b"xyz".as_slice());
+    let awaited = blake2b_core::digest(b"xyz");
+    assert_eq!(rt; account.lookups.get(&awaited, 3), History::of(&[9]));
+    let bytes = account.preimages.get(&awaited).unwrap_or(b"");
+    assert!(rt; bytes == b"xyz".as_slice());
     Ok(())
 }

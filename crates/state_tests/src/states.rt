@@ -3,7 +3,7 @@ use jam_accounts::{Account, Accounts, Lookups, Preimages, State, Storage, fits};
 use jam_codec::FileRefusal;
 use preimage_store::History;
 use state_file::{read_state, write_state};
-use std::alloc::Global;
+use std::alloc::{AllocError, Global};
 use std::test::Fail;
 
 const EMPTY: [u8; 38] = [
@@ -25,39 +25,68 @@ fn the_empty_state(rt: HostRuntime) -> Result<(), Fail> {
     Ok(())
 }
 
-fn account_of(alloc: Global, balance: u64) -> Result<Account, Fail> {
+fn two_values(alloc: Global) -> Result<Storage, AllocError> {
     let mut storage = Storage::new(alloc);
-    storage.put(
-        Vec::from_slice(alloc, &[1, 2])?,
-        Vec::from_slice(alloc, &[5])?,
-    )?;
-    storage.put(Vec::from_slice(alloc, &[1])?, Vec::new(alloc))?;
+    let key = Vec::from_slice(alloc, &[1, 2])?;
+    let value = Vec::from_slice(alloc, &[5])?;
+    storage.put(key, value)?;
+    let key = Vec::from_slice(alloc, &[1])?;
+    storage.put(key, Vec::new(alloc))?;
+    Ok(storage)
+}
+
+fn two_preimages(alloc: Global) -> Result<Preimages, AllocError> {
     let mut preimages = Preimages::new(alloc);
-    preimages.put(Vec::from_slice(alloc, &[9, 9])?)?;
-    preimages.put(Vec::from_slice(alloc, &[3])?)?;
+    let bytes = Vec::from_slice(alloc, &[9, 9])?;
+    preimages.put(bytes)?;
+    let bytes = Vec::from_slice(alloc, &[3])?;
+    preimages.put(bytes)?;
+    Ok(preimages)
+}
+
+fn two_lookups(alloc: Global) -> Result<Lookups, AllocError> {
     let mut lookups = Lookups::new(alloc);
-    let history = History::of(&[4, 6]).ok_or("two slots")?;
-    lookups.put(&[8; 32], 300, history)?;
-    lookups.put(&[8; 32], 2, history)?;
+    if let Some(history) = History::of(&[4, 6]) {
+        lookups.put(&[8; 32], 300, history)?;
+        lookups.put(&[8; 32], 2, history)?;
+    }
+    Ok(lookups)
+}
+
+fn account_of(alloc: Global, balance: u64) -> Result<Account, AllocError> {
+    let storage = two_values(alloc)?;
+    let preimages = two_preimages(alloc)?;
+    let lookups = two_lookups(alloc)?;
     if !fits(&storage, &lookups) {
-        return Err(Fail::from("the account is small"));
+        return Err(AllocError);
     }
     Ok(Account::new([7; 32], balance, 10, 20, storage, preimages, lookups))
 }
 
-// How many bytes each field of an account takes: the id, the code's hash, three numbers; the values, whose keys are of
-// one and two bytes; the preimages, [9, 9] before [3] by their digests; the lookups, of two slots each.
-const ACCOUNT: [u64; 30] = [
-    4, 32, 8, 8, 8, 1, 1, 1, 1, 0, 1, 2, 1, 1, 1, 1, 2, 1, 1, 1, 32, 4, 1, 4, 4, 32, 4, 1, 4, 4,
+// A state of two accounts.
+fn state_of(alloc: Global) -> Result<State, AllocError> {
+    let mut accounts = Accounts::new(alloc);
+    let later = account_of(alloc, 1)?;
+    accounts.put(256, later)?;
+    let first = account_of(alloc, 2)?;
+    accounts.put(1, first)?;
+    Ok(State::new(11, [6; 32], accounts))
+}
+
+// How many bytes each field of a file of two accounts takes: the version, the slot, the entropy, the count; and of each
+// account the id, the code's hash, three numbers; the values, whose keys are of one and two bytes; the preimages, [9, 9]
+// before [3] by their digests; the lookups, of two slots each.
+const FIELDS: [u64; 64] = [
+    1, 4, 32, 1, 4, 32, 8, 8, 8, 1, 1, 1, 1, 0, 1, 2, 1, 1, 1, 1, 2, 1, 1, 1, 32, 4, 1, 4, 4, 32,
+    4, 1, 4, 4, 4, 32, 8, 8, 8, 1, 1, 1, 1, 0, 1, 2, 1, 1, 1, 1, 2, 1, 1, 1, 32, 4, 1, 4, 4, 32, 4,
+    1, 4, 4,
 ];
 
-// Of a file of two accounts cut to a length: where the last field ends that is whole.
+// Of such a file cut to a length: where the last field ends that is whole.
 fn whole_fields(length: u64) -> u64 {
     let mut place = 0u64;
-    let head = [1, 4, 32, 1];
-    let fields = [&head[..], &ACCOUNT, &ACCOUNT];
-    for field in fields.iter().flat_map(|part| part.iter()) {
-        let end = place.saturating_add(*field);
+    for field in FIELDS {
+        let end = place.saturating_add(field);
         if end > length {
             return place;
         }
@@ -68,10 +97,7 @@ fn whole_fields(length: u64) -> u64 {
 
 #[test]
 fn two_accounts(rt: HostRuntime) -> Result<(), Fail> {
-    let mut accounts = Accounts::new(rt.alloc());
-    accounts.put(256, account_of(rt.alloc(), 1)?)?;
-    accounts.put(1, account_of(rt.alloc(), 2)?)?;
-    let state = State::new(11, [6; 32], accounts);
+    let state = state_of(rt.alloc())?;
     let bytes = write_state(rt.alloc(), &state)?;
     let read = read_state(rt.alloc(), bytes.as_slice()).or(Err("two accounts"))?;
     let again = write_state(rt.alloc(), &read)?;
