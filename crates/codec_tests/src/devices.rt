@@ -35,6 +35,7 @@ fn a_whole_file_is_read_up_to_the_limit(rt: HostRuntime) -> Result<(), Fail> {
         read_whole(alloc, &mut vault, "short", 3)?.as_slice(),
         b"new".as_slice()
     );
+    assert_eq!(rt; vault.stores, 1);
     Ok(())
 }
 
@@ -76,6 +77,23 @@ fn listed_reads_fail(rt: HostRuntime) -> Result<(), Fail> {
 }
 
 #[test]
+fn a_whole_file_is_read_from_its_front_on(rt: HostRuntime) -> Result<(), Fail> {
+    let alloc = rt.alloc();
+    let long = vec![in alloc; 7u8; 70_000]?;
+    // Two pieces, and then the read that finds the end.
+    for (read, place) in [(1, 0), (2, 65_536), (3, 70_000)] {
+        let listed = Vec::from_slice(alloc, &[read])?;
+        let files = one_file(alloc, "long", &long)?;
+        let mut vault = MemVault::new(alloc, files, listed, Vec::new(alloc));
+        let refused = read_whole(alloc, &mut vault, "long", 70_000);
+        assert!(rt; matches!(refused, Err(ReadRefusal::ReadFault)), "at {read}");
+        assert_eq!(rt; vault.failed_place, place);
+        assert_eq!(rt; vault.reads, read);
+    }
+    Ok(())
+}
+
+#[test]
 fn a_listed_store_leaves_the_files(rt: HostRuntime) -> Result<(), Fail> {
     let alloc = rt.alloc();
     let listed = Vec::from_slice(alloc, &[2])?;
@@ -93,6 +111,8 @@ fn a_listed_store_leaves_the_files(rt: HostRuntime) -> Result<(), Fail> {
         [4, 5].as_slice()
     );
     vault.store("a", &[7])?;
+    assert_eq!(rt; vault.stores, 3);
+    assert_eq!(rt; vault.store_faults, 1);
     assert_eq!(rt;
         read_whole(alloc, &mut vault, "a", 9)?.as_slice(),
         [7].as_slice()

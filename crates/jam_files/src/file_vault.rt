@@ -31,6 +31,10 @@ pub struct FileVault<'a, R: Files> {
     pub read_faults: u64,
     /// The name of the last read that failed, at first empty.
     pub failed: String,
+    /// The place from which it read, at first 0.
+    pub failed_place: u64,
+    /// How many stores were made.
+    pub stores: u64,
     /// How many stores failed.
     pub store_faults: u64,
     /// The name of the last store that failed, at first empty.
@@ -43,7 +47,7 @@ impl<'a, R: Files> Model for FileVault<'a, R> {
 
     ghost Value = { FileFaults };
 
-    ghost view = { λ v. record { read_faults = v.read_faults; failed = string_bytes v.failed; store_faults = v.store_faults; store_failed = string_bytes v.store_failed } };
+    ghost view = { λ v. record { read_faults = v.read_faults; failed = string_bytes v.failed; failed_place = v.failed_place; stores = v.stores; store_faults = v.store_faults; store_failed = string_bytes v.store_failed } };
 }
 
 impl<'a, R: Files> FileVault<'a, R> {
@@ -58,6 +62,8 @@ impl<'a, R: Files> FileVault<'a, R> {
             inputs: Vec::new(alloc),
             read_faults: 0,
             failed: String::new(alloc),
+            failed_place: 0,
+            stores: 0,
             store_faults: 0,
             store_failed: String::new(alloc),
         }
@@ -106,6 +112,7 @@ impl<'a, R: Files> Vault for FileVault<'a, R> {
             Err(e) if is_out_of_memory(&e) => Err(OutsideError::NoMemory),
             Err(_) => {
                 self.failed = String::from_str(self.alloc, name)?;
+                self.failed_place = place;
                 self.read_faults = self.read_faults.saturating_add(1);
                 Err(OutsideError::Failed)
             }
@@ -113,6 +120,7 @@ impl<'a, R: Files> Vault for FileVault<'a, R> {
     }
 
     fn store(&mut self, name: &str, bytes: &[u8]) -> Result<(), OutsideError> {
+        self.stores = self.stores.saturating_add(1);
         match write_whole(self.rt, self.alloc, &self.inputs, name, bytes) {
             Ok(()) => Ok(()),
             Err(e) if is_out_of_memory(&e) => Err(OutsideError::NoMemory),

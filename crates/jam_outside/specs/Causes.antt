@@ -1,50 +1,75 @@
 -- What is known of a vault and a sink, and what a call leaves of it.
-use Rattle.std.specs.Prelude.{◌≡◌, ℕ, ◌+◌, ◌-◌, ◌^◌, ◌≤◌, min, Bool, true, false, IsTrue, List, ◌++◌, take, Option, option_map, Result, Ok, Err, if◌then◌else◌}
+use Rattle.std.specs.Prelude.{◌≡◌, ℕ, ◌+◌, ◌-◌, ◌^◌, min, Bool, true, false, List, ◌++◌, take, Option, option_map, Result, Ok, Err}
+use Rattle.std.specs.FinMap as fin
 use Rattle.jam_outside.specs.Files.{Files}
 use Rattle.jam_outside.specs.declared.vault.OutsideError.{OutsideError}
 use Rattle.jam_outside.specs.declared.vault.OutsideError.TheVariants as outside
 use Rattle.jam_outside.specs.declared.whole.ReadRefusal.{ReadRefusal}
 use Rattle.jam_outside.specs.declared.whole.ReadRefusal.TheVariants as refusal
 
--- its files, where they are told; for each kind of call how often it failed, and the name at which it last did
+-- its files, where they are told; the name and the place of the last read that failed; how many stores were made;
+-- for each kind of call how often it failed, and the name of the last store that did
 pub record VaultState : Type 0 where
   pub files : Option Files
   pub read_faults : ℕ
   pub failed : List ℕ
+  pub failed_place : ℕ
+  pub stores : ℕ
   pub store_faults : ℕ
   pub store_failed : List ℕ
 
--- a count rose: it is greater than before, or stands at its end
-abbrev pub Rose : ℕ → ℕ → Type 0
-Rose before now = min (before + 1) (2 ^ 64 - 1) ≤ now
+-- a count one higher; at its type's end it stands still
+abbrev pub counted : ℕ → ℕ
+counted n = min (n + 1) (2 ^ 64 - 1)
 
--- after reads of this name, of which the last failed or did not
-pub record AfterReads (fault : Bool) (old new : VaultState) (name : List ℕ) : Type 0 where
-  pub files : new.files ≡ old.files
-  pub later : old.read_faults ≤ new.read_faults
-  pub rose : IsTrue fault → Rose old.read_faults new.read_faults
-  pub failed : new.failed ≡ (if fault then name else old.failed)
-  pub store_later : old.store_faults ≤ new.store_faults
-  pub store_failed : new.store_failed ≡ old.store_failed
+-- a count was raised by one
+abbrev pub Raised : ℕ → ℕ → Type 0
+Raised old new = new ≡ counted old
 
--- after a store under this name, which failed or did not
-pub record AfterStore (fault : Bool) (old new : VaultState) (name : List ℕ) : Type 0 where
-  pub later : old.store_faults ≤ new.store_faults
-  pub rose : IsTrue fault → Rose old.store_faults new.store_faults
-  pub store_failed : new.store_failed ≡ (if fault then name else old.store_failed)
-  pub read_later : old.read_faults ≤ new.read_faults
-  pub failed : new.failed ≡ old.failed
+-- a count of failures after one more call
+abbrev pub counted_where : Bool → ℕ → ℕ
+counted_where true n = counted n
+counted_where false n = n
+
+-- a vault at which a read of this name from this place failed
+abbrev pub read_failed : VaultState → List ℕ → ℕ → VaultState
+read_failed v name place = record v { read_faults = counted v.read_faults; failed = name; failed_place = place }
+
+-- what a read leaves: but for a failure all is as it was
+abbrev pub read_leaves : {X : Type 0} → Result X OutsideError → VaultState → List ℕ → ℕ → VaultState
+read_leaves (Ok x) v name place = v
+read_leaves (Err outside.Failed) v name place = read_failed v name place
+read_leaves (Err outside.NoMemory) v name place = v
+
+-- a vault at which a store was made
+abbrev pub store_made : VaultState → VaultState
+store_made v = record v { stores = counted v.stores }
+
+-- one that gave this name these bytes
+abbrev pub store_done : VaultState → List ℕ → List ℕ → VaultState
+store_done v name bytes = record v { stores = counted v.stores; files = option_map (λ held. fin.insert held name bytes) v.files }
+
+-- one under this name that failed
+abbrev pub store_failed : VaultState → List ℕ → VaultState
+store_failed v name = record v { stores = counted v.stores; store_faults = counted v.store_faults; store_failed = name }
+
+-- what a store leaves: it is counted whatever it answers, and a refusal leaves the files
+abbrev pub store_leaves : {X : Type 0} → Result X OutsideError → VaultState → List ℕ → List ℕ → VaultState
+store_leaves (Ok x) v name bytes = store_done v name bytes
+store_leaves (Err outside.Failed) v name bytes = store_failed v name
+store_leaves (Err outside.NoMemory) v name bytes = store_made v
 
 abbrev pub is_failed : {X : Type 0} → Result X OutsideError → Bool
 is_failed (Ok x) = false
 is_failed (Err outside.Failed) = true
 is_failed (Err outside.NoMemory) = false
 
-abbrev pub is_read_fault : {X : Type 0} → Result X ReadRefusal → Bool
-is_read_fault (Ok x) = false
-is_read_fault (Err refusal.ReadFault) = true
-is_read_fault (Err refusal.TooLong) = false
-is_read_fault (Err refusal.NoMemory) = false
+-- what a whole read leaves, where the place is that of the read that failed
+abbrev pub whole_read_leaves : {X : Type 0} → Result X ReadRefusal → VaultState → List ℕ → ℕ → VaultState
+whole_read_leaves (Ok x) v name place = v
+whole_read_leaves (Err refusal.ReadFault) v name place = read_failed v name place
+whole_read_leaves (Err refusal.TooLong) v name place = v
+whole_read_leaves (Err refusal.NoMemory) v name place = v
 
 -- what a whole read answers where a read of the vault was refused so
 abbrev pub refusal_of : OutsideError → ReadRefusal
@@ -63,9 +88,3 @@ Appends old new bytes = new ≡ option_map (λ taken. taken ++ bytes) old
 -- a prefix of them was
 abbrev pub AppendsPrefix : Option (List ℕ) → Option (List ℕ) → List ℕ → Type 0
 AppendsPrefix old new bytes = (n : ℕ) × Appends old new (take n bytes)
-
--- after a put of these bytes, which failed or did not
-pub record AfterPut (fault : Bool) (old new : SinkState) (bytes : List ℕ) : Type 0 where
-  pub later : old.faults ≤ new.faults
-  pub rose : IsTrue fault → Rose old.faults new.faults
-  pub prefix : AppendsPrefix old.taken new.taken bytes

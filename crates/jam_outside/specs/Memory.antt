@@ -1,34 +1,38 @@
 -- What the vaults and sinks in memory are as vaults and sinks.
-use Rattle.std.specs.Prelude.{ℕ, ◌+◌, ◌-◌, ◌^◌, min, Bool, not, ◌||◌, nat_eq, List, [], ◌++◌, Some, Result, Ok, Err, refl}
+use Rattle.std.specs.Prelude.{ℕ, Bool, not, ◌||◌, nat_eq, List, [], ◌++◌, Some, Result, Ok, Err, refl}
 use Rattle.std.specs.List.{list_any}
 use Rattle.std.specs.Coded.{Coded, code_by, coded×, coded_ℕ, coded_list}
 use Rattle.std.specs.FinMap as fin
 use Rattle.jam_outside.specs.Files.{Files}
-use Rattle.jam_outside.specs.Causes.{VaultState, SinkState}
+use Rattle.jam_outside.specs.Causes.{VaultState, SinkState, counted}
 use Rattle.jam_outside.specs.declared.vault.OutsideError.{OutsideError}
 use Rattle.jam_outside.specs.declared.vault.OutsideError.TheVariants as outside
 
 abbrev pub files_code : Coded Files
 files_code = fin.code (coded_list coded_ℕ) (coded_list coded_ℕ)
 
--- a vault of these files that never fails
-abbrev pub sure_vault : Files → VaultState
-sure_vault held = record { files = Some held; read_faults = 0; failed = []; store_faults = 0; store_failed = [] }
+-- files, and how many stores were made
+pub record SureFiles : Type 0 where
+  pub files : Files
+  pub stores : ℕ
+
+abbrev pub sure_files_code : Coded SureFiles
+sure_files_code = code_by (Files × ℕ) (coded× files_code coded_ℕ) (λ v. (v.files, v.stores)) (λ p. record { files = p.0; stores = p.1 }) (λ _. refl)
+
+-- a vault of these that never fails
+abbrev pub sure_vault : SureFiles → VaultState
+sure_vault v = record { files = Some v.files; read_faults = 0; failed = []; failed_place = 0; stores = v.stores; store_faults = 0; store_failed = [] }
 
 -- a sink that took these bytes and never fails
 abbrev pub sure_sink : List ℕ → SinkState
 sure_sink bytes = record { taken = Some bytes; faults = 0 }
-
--- a count one higher, or at its end
-abbrev pub counted : ℕ → ℕ
-counted n = min (n + 1) (2 ^ 64 - 1)
 
 -- after so many calls of a kind the next one is listed, where the first call has the number 1
 abbrev pub is_next : List ℕ → ℕ → Bool
 is_next listed made = list_any (λ k. nat_eq k (counted made)) listed
 
 -- files, and for each kind of call the numbers of those that fail, how many were made,
--- how many failed, and the name at which the last of these did
+-- how many failed, the name at which the last of these did, and for a read its place
 pub record FailingVault : Type 0 where
   pub files : Files
   pub fail_reads : List ℕ
@@ -38,18 +42,19 @@ pub record FailingVault : Type 0 where
   pub read_faults : ℕ
   pub store_faults : ℕ
   pub failed : List ℕ
+  pub failed_place : ℕ
   pub store_failed : List ℕ
 
 abbrev pub failing_vault_code : Coded FailingVault
 failing_vault_code =
-    code_by (Files × (List ℕ × (List ℕ × (ℕ × (ℕ × (ℕ × (ℕ × (List ℕ × List ℕ))))))))
-    (coded× files_code (coded× (coded_list coded_ℕ) (coded× (coded_list coded_ℕ) (coded× coded_ℕ (coded× coded_ℕ (coded× coded_ℕ (coded× coded_ℕ (coded× (coded_list coded_ℕ) (coded_list coded_ℕ)))))))))
-    (λ v. (v.files, (v.fail_reads, (v.fail_stores, (v.reads, (v.stores, (v.read_faults, (v.store_faults, (v.failed, v.store_failed)))))))))
-    (λ p. record { files = p.0; fail_reads = p.1.0; fail_stores = p.1.1.0; reads = p.1.1.1.0; stores = p.1.1.1.1.0; read_faults = p.1.1.1.1.1.0; store_faults = p.1.1.1.1.1.1.0; failed = p.1.1.1.1.1.1.1.0; store_failed = p.1.1.1.1.1.1.1.1 })
+    code_by (Files × (List ℕ × (List ℕ × (ℕ × (ℕ × (ℕ × (ℕ × (ℕ × (List ℕ × List ℕ)))))))))
+    (coded× files_code (coded× (coded_list coded_ℕ) (coded× (coded_list coded_ℕ) (coded× coded_ℕ (coded× coded_ℕ (coded× coded_ℕ (coded× coded_ℕ (coded× coded_ℕ (coded× (coded_list coded_ℕ) (coded_list coded_ℕ))))))))))
+    (λ v. (v.files, (v.fail_reads, (v.fail_stores, (v.reads, (v.stores, (v.read_faults, (v.store_faults, (v.failed_place, (v.failed, v.store_failed))))))))))
+    (λ p. record { files = p.0; fail_reads = p.1.0; fail_stores = p.1.1.0; reads = p.1.1.1.0; stores = p.1.1.1.1.0; read_faults = p.1.1.1.1.1.0; store_faults = p.1.1.1.1.1.1.0; failed_place = p.1.1.1.1.1.1.1.0; failed = p.1.1.1.1.1.1.1.1.0; store_failed = p.1.1.1.1.1.1.1.1.1 })
     (λ _. refl)
 
 abbrev pub vault_state : FailingVault → VaultState
-vault_state v = record { files = Some v.files; read_faults = v.read_faults; failed = v.failed; store_faults = v.store_faults; store_failed = v.store_failed }
+vault_state v = record { files = Some v.files; read_faults = v.read_faults; failed = v.failed; failed_place = v.failed_place; stores = v.stores; store_faults = v.store_faults; store_failed = v.store_failed }
 
 -- a read is refused exactly where its number is listed or the name is not there
 abbrev pub refuses_read : FailingVault → List ℕ → Bool
@@ -58,10 +63,10 @@ refuses_read v name = is_next v.fail_reads v.reads || not (fin.contains_key v.fi
 abbrev pub refuses_store : FailingVault → Bool
 refuses_store v = is_next v.fail_stores v.stores
 
-abbrev pub after_read : {X : Type 0} → Result X OutsideError → FailingVault → List ℕ → FailingVault
-after_read (Ok x) v name = record v { reads = counted v.reads }
-after_read (Err outside.Failed) v name = record v { reads = counted v.reads; read_faults = counted v.read_faults; failed = name }
-after_read (Err outside.NoMemory) v name = record v { reads = counted v.reads }
+abbrev pub after_read : {X : Type 0} → Result X OutsideError → FailingVault → List ℕ → ℕ → FailingVault
+after_read (Ok x) v name place = record v { reads = counted v.reads }
+after_read (Err outside.Failed) v name place = record v { reads = counted v.reads; read_faults = counted v.read_faults; failed = name; failed_place = place }
+after_read (Err outside.NoMemory) v name place = record v { reads = counted v.reads }
 
 abbrev pub after_store : {X : Type 0} → Result X OutsideError → FailingVault → List ℕ → List ℕ → FailingVault
 after_store (Ok x) v name bytes = record v { stores = counted v.stores; files = fin.insert v.files name bytes }

@@ -1,6 +1,6 @@
 // A sink in memory whose listed calls fail.
 ghost use Rattle.std.specs.Prelude.{◌≡◌, [], OnOk};
-ghost use Rattle.jam_outside.specs.Causes.{Appends, AfterPut, is_failed};
+ghost use Rattle.jam_outside.specs.Causes.{Appends, AppendsPrefix, counted_where, is_failed};
 ghost use Rattle.jam_outside.specs.Memory.{sink_state, refuses_put, after_put};
 
 use crate::{OutsideError, Sink};
@@ -52,7 +52,8 @@ impl Sink for MemSink {
     /// Fails exactly where its number is listed, and then takes nothing.
     fn put(&mut self, bytes: &[u8]) -> Result<(), OutsideError>
         ensures appended { OnOk result (Appends (sink_state self.old).taken (sink_state self.new).taken bytes.now) }
-        ensures state { AfterPut (is_failed result) (sink_state self.old) (sink_state self.new) bytes.now }
+        ensures prefix { AppendsPrefix (sink_state self.old).taken (sink_state self.new).taken bytes.now }
+        ensures faults { (sink_state self.new).faults ≡ counted_where (is_failed result) (sink_state self.old).faults }
         ensures failed { is_failed result ≡ refuses_put self.old }
         ensures after { self.new ≡ after_put result self.old bytes.now }
     {

@@ -1,8 +1,7 @@
 // A vault in memory whose listed calls fail.
-ghost use Rattle.std.specs.Prelude.{◌≡◌, ◌-◌, ◌≤◌, ◌^◌, [], length, min, IsTrue, IfOk, IfSome, OnOk, OnErr, is_err, option_map, string_bytes};
-ghost use Rattle.std.specs.FinMap as fin;
+ghost use Rattle.std.specs.Prelude.{◌≡◌, ◌-◌, ◌≤◌, [], length, min, IsTrue, IfOk, IfSome, is_err};
 ghost use Rattle.jam_outside.specs.Files.{Gives, content, files_of};
-ghost use Rattle.jam_outside.specs.Causes.{AfterReads, AfterStore, is_failed};
+ghost use Rattle.jam_outside.specs.Causes.{read_leaves, store_leaves, is_failed};
 ghost use Rattle.jam_outside.specs.Memory.{vault_state, refuses_read, refuses_store, after_read, after_store};
 
 use crate::held::{copy_part, put_file};
@@ -29,6 +28,8 @@ pub struct MemVault {
     pub store_faults: u64,
     /// The name of the last read that failed, at first empty.
     pub failed: String,
+    /// The place from which it read, at first 0.
+    pub failed_place: u64,
     /// The name of the last store that failed, at first empty.
     pub store_failed: String,
 }
@@ -42,7 +43,7 @@ impl Model for MemVault {
 
     ghost coded = { failing_vault_code };
 
-    ghost view = { λ v. record { files = files_of v.files; fail_reads = v.fail_reads.items; fail_stores = v.fail_stores.items; reads = v.reads; stores = v.stores; read_faults = v.read_faults; store_faults = v.store_faults; failed = string_bytes v.failed; store_failed = string_bytes v.store_failed } };
+    ghost view = { λ v. record { files = files_of v.files; fail_reads = v.fail_reads.items; fail_stores = v.fail_stores.items; reads = v.reads; stores = v.stores; read_faults = v.read_faults; store_faults = v.store_faults; failed = string_bytes v.failed; failed_place = v.failed_place; store_failed = string_bytes v.store_failed } };
 }
 
 impl MemVault {
@@ -53,7 +54,7 @@ impl MemVault {
         fail_reads: Vec<u64>,
         fail_stores: Vec<u64>,
     ) -> Self
-        ensures { result ≡ record { files = files_of files; fail_reads = fail_reads.items; fail_stores = fail_stores.items; reads = 0; stores = 0; read_faults = 0; store_faults = 0; failed = []; store_failed = [] } }
+        ensures { result ≡ record { files = files_of files; fail_reads = fail_reads.items; fail_stores = fail_stores.items; reads = 0; stores = 0; read_faults = 0; store_faults = 0; failed = []; failed_place = 0; store_failed = [] } }
     {
         MemVault {
             alloc,
@@ -65,6 +66,7 @@ impl MemVault {
             read_faults: 0,
             store_faults: 0,
             failed: String::new(alloc),
+            failed_place: 0,
             store_failed: String::new(alloc),
         }
     }
@@ -79,10 +81,10 @@ impl Vault for MemVault {
     fn read_at(&mut self, name: &str, place: u64, buf: &mut [u8]) -> Result<usize, OutsideError>
         ensures fits { IfOk result (λ n. n ≤ length buf.new) }
         ensures gives { IfOk result (λ n. IfSome (vault_state self.old).files (λ held. Gives (content held name.now) place buf.new n)) }
-        ensures state { AfterReads (is_failed result) (vault_state self.old) (vault_state self.new) name.now }
+        ensures state { vault_state self.new ≡ read_leaves result (vault_state self.old) name.now place }
         ensures refused { is_err result ≡ refuses_read self.old name.now }
         ensures count { IfOk result (λ n. n ≡ min (length buf.new) (length (content self.old.files name.now) - place)) }
-        ensures after { self.new ≡ after_read result self.old name.now }
+        ensures after { self.new ≡ after_read result self.old name.now place }
     {
         self.reads = self.reads.saturating_add(1);
         let listed = self.fail_reads.contains(&self.reads);
@@ -90,6 +92,7 @@ impl Vault for MemVault {
             Some(file) if !listed => Ok(copy_part(file.as_slice(), place, buf)),
             _ => {
                 self.failed = String::from_str(self.alloc, name)?;
+                self.failed_place = place;
                 self.read_faults = self.read_faults.saturating_add(1);
                 Err(OutsideError::Failed)
             }
@@ -99,9 +102,7 @@ impl Vault for MemVault {
     /// Fails exactly where its number is listed; where there is no memory to keep the name of a
     /// failure, it answers NoMemory.
     fn store(&mut self, name: &str, bytes: &[u8]) -> Result<(), OutsideError>
-        ensures stored { OnOk result ((vault_state self.new).files ≡ option_map (λ held. fin.insert held name.now bytes.now) (vault_state self.old).files) }
-        ensures err { OnErr result ((vault_state self.new).files ≡ (vault_state self.old).files) }
-        ensures state { AfterStore (is_failed result) (vault_state self.old) (vault_state self.new) name.now }
+        ensures state { vault_state self.new ≡ store_leaves result (vault_state self.old) name.now bytes.now }
         ensures refused { IsTrue (refuses_store self.old) → IsTrue (is_err result) }
         ensures failed { IsTrue (is_failed result) → IsTrue (refuses_store self.old) }
         ensures after { self.new ≡ after_store result self.old name.now bytes.now }

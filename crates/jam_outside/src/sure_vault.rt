@@ -1,7 +1,7 @@
 // A vault in memory that never fails.
 ghost use Rattle.std.specs.Prelude.{◌≡◌, ◌-◌, ◌≤◌, Ok, length, min, IfOk, IfSome};
 ghost use Rattle.jam_outside.specs.Files.{Gives, content, files_of};
-ghost use Rattle.jam_outside.specs.Causes.{AfterReads, is_failed};
+ghost use Rattle.jam_outside.specs.Causes.{counted, read_leaves};
 ghost use Rattle.jam_outside.specs.Memory.{sure_vault};
 
 use crate::held::{copy_part, put_file};
@@ -10,30 +10,36 @@ use std::alloc::Global;
 use std::collections::BTreeMap;
 use std::marker::Model;
 
-/// Files in memory, whose calls fail for want of memory alone. To contracts it is its files.
+/// Files in memory, whose calls fail for want of memory alone.
 #[derive(Drop)]
 pub struct SureVault {
     alloc: Global,
     held: BTreeMap<String, Vec<u8>>,
+    /// How many stores were made. The count stands still at its type's end.
+    pub stores: u64,
 }
 
 impl Model for SureVault {
-    ghost use Rattle.jam_outside.specs.Files.{Files, files_of};
-    ghost use Rattle.jam_outside.specs.Memory.{files_code};
+    ghost use Rattle.jam_outside.specs.Files.{files_of};
+    ghost use Rattle.jam_outside.specs.Memory.{SureFiles, sure_files_code};
 
-    ghost Value = { Files };
+    ghost Value = { SureFiles };
 
-    ghost coded = { files_code };
+    ghost coded = { sure_files_code };
 
-    ghost view = { λ v. files_of v.held };
+    ghost view = { λ v. record { files = files_of v.held; stores = v.stores } };
 }
 
 impl SureVault {
     /// A vault that holds these files and no others.
     pub fn new(alloc: Global, files: BTreeMap<String, Vec<u8>>) -> Self
-        ensures { result ≡ files_of files }
+        ensures { result ≡ record { files = files_of files; stores = 0 } }
     {
-        SureVault { alloc, held: files }
+        SureVault {
+            alloc,
+            held: files,
+            stores: 0,
+        }
     }
 }
 
@@ -45,8 +51,8 @@ impl Vault for SureVault {
     fn read_at(&mut self, name: &str, place: u64, buf: &mut [u8]) -> Result<usize, OutsideError>
         ensures fits { IfOk result (λ n. n ≤ length buf.new) }
         ensures gives { IfOk result (λ n. IfSome (sure_vault self.old).files (λ held. Gives (content held name.now) place buf.new n)) }
-        ensures state { AfterReads (is_failed result) (sure_vault self.old) (sure_vault self.new) name.now }
-        ensures count { result ≡ Ok (min (length buf.new) (length (content self.old name.now) - place)) }
+        ensures state { sure_vault self.new ≡ read_leaves result (sure_vault self.old) name.now place }
+        ensures count { result ≡ Ok (min (length buf.new) (length (content self.old.files name.now) - place)) }
     {
         match self.held.get(name) {
             None => Ok(0),
@@ -55,6 +61,7 @@ impl Vault for SureVault {
     }
 
     fn store(&mut self, name: &str, bytes: &[u8]) -> Result<(), OutsideError> {
+        self.stores = self.stores.saturating_add(1);
         put_file(self.alloc, &mut self.held, name, bytes)
     }
 }

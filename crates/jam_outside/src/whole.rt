@@ -3,7 +3,7 @@ ghost use Rattle.std.specs.Prelude.{◌≡◌, ◌+◌, ◌<◌, ◌≤◌, ◌^
 ghost use Rattle.jam_outside.specs.declared.whole.ReadRefusal.TheVariants.{NoMemory};
 ghost use Rattle.jam_outside.specs.Files.{content};
 ghost use Rattle.jam_outside.specs.Progress.{IsFront, HasNoMore};
-ghost use Rattle.jam_outside.specs.Causes.{AfterReads, is_read_fault, refusal_of};
+ghost use Rattle.jam_outside.specs.Causes.{whole_read_leaves, refusal_of};
 
 use crate::{OutsideError, Vault};
 use std::alloc::{AllocError, Global};
@@ -49,9 +49,10 @@ const PIECE: usize = 65_536;
 ///
 /// # Errors
 ///
-/// `ReadFault` where a read failed: the vault's count rose, and its failed name is this one.
-/// `TooLong` where the file holds more bytes than the limit, and `NoMemory` for want of memory.
-/// The files stay in each case.
+/// `ReadFault` where a read failed: the vault's count of these was raised by one, its failed name
+/// is this one and its failed place that of the read, which is no further than the limit and the
+/// file go. `TooLong` where the file holds more bytes than the limit, and `NoMemory` for want of
+/// memory. All else of the vault is as it was.
 #[tactic(auto, using(std::proofs::lemmas::Result::err_from_is_err_and))]
 pub fn read_whole<V: Vault>(
     alloc: Global,
@@ -63,7 +64,9 @@ pub fn read_whole<V: Vault>(
     ensures fits { IfOk result (λ v. length v.items ≤ limit) }
     ensures bytes { IfOk result (λ v. IfSome (V.state vault.old).files (λ held. v.items ≡ content held name.now)) }
     ensures too_long { IsErrOf result ReadRefusal.TooLong → IfSome (V.state vault.old).files (λ held. limit < length (content held name.now)) }
-    ensures state { AfterReads (is_read_fault result) (V.state vault.old) (V.state vault.new) name.now }
+    ensures state { V.state vault.new ≡ whole_read_leaves result (V.state vault.old) name.now (V.state vault.new).failed_place }
+    ensures place { IsErrOf result ReadRefusal.ReadFault → (V.state vault.new).failed_place ≤ limit }
+    ensures reached { IsErrOf result ReadRefusal.ReadFault → IfSome (V.state vault.old).files (λ held. (V.state vault.new).failed_place ≤ length (content held name.now)) }
 {
     let mut bytes = Vec::new(alloc);
     let mut room = make_room(alloc, PIECE)?;
@@ -94,7 +97,7 @@ fn read_piece<V: Vault>(
     ensures front { OnOk result (IsFront (V.state vault.old).files name.now bytes.old.items → IsFront (V.state vault.old).files name.now bytes.new.items) }
     ensures end { result ≡ Ok 0 → 0 < length room.new → HasNoMore (V.state vault.old).files name.now (length bytes.old.items) }
     ensures not_too_long { ¬ IsErrOf result ReadRefusal.TooLong }
-    ensures state { AfterReads (is_read_fault result) (V.state vault.old) (V.state vault.new) name.now }
+    ensures state { V.state vault.new ≡ whole_read_leaves result (V.state vault.old) name.now (length bytes.old.items) }
 {
     let given = vault.read_at(name, bytes.len() as u64, room)?;
     bytes.extend_from_slice(&room[..given])?;

@@ -1,13 +1,12 @@
-use Rattle.std.proofs.Common.{◌+◌, ◌-◌, ◌≤◌, length, false}
+use Rattle.std.proofs.Common.{◌≡◌, ◌+◌, ◌-◌, ◌≤◌, length}
 use Rattle.jam_outside.specs.Progress.{IsFront}
-use Rattle.jam_outside.specs.Causes.{AfterReads}
 use Rattle.jam_outside.proofs.whole.read_whole.Given as goal
 
 abbrev pub invariant-reads : goal.invariant-reads
 invariant-reads g l = record {
   within : length l.bytes.items ≤ l.limit + 1;
   front : IsFront (g.V.Vault.state l.fn.vault).files l.name l.bytes.items;
-  state : AfterReads false (g.V.Vault.state l.fn.vault) (g.V.Vault.state l.vault) l.name;
+  state : g.V.Vault.state l.vault ≡ g.V.Vault.state l.fn.vault;
 }
 
 -- the bytes that may still be taken
