@@ -1,267 +1,392 @@
 -- What each status of a call says follows from how the call ends.
-use Rattle.std.proofs.Common.{◌≡◌, ◌≢◌, ℕ, List, [], ◌∷◌, arith, ap, sym, ◌∙◌, subst, refl, inl, inr, Bool, true, false, cond, Option, Some, None, unwrap_or}
-use Rattle.std.specs.Prelude.{IfSome, codes}
-use Rattle.std.proofs.lemmas.Fmt.{decimal_injective}
-use Rattle.std.specs.Ordering.{nat_cmp, eq_by_cmp}
+use Rattle.std.proofs.Common.{◌≡◌, ◌≢◌, ◌⊎◌, ℕ, ◌<◌, List, [], ◌∷◌, arith, ap, sym, ◌∙◌, subst, refl, inl, inr, Bool, true, false, cond, Option, Some, None, unwrap_or, Result, Ok, Err, map, Ordering}
+use Rattle.std.specs.Prelude.{IfSome, option_map, is_some}
+use Rattle.std.specs.Ordering.{nat_cmp, eq_by_cmp, is_eq}
+use Rattle.std.specs.declared.cmp.Ordering.TheVariants.{Less, Equal, Greater}
 use Rattle.std.specs.Cmp.Lexicographic.{slice_cmp, nat_list_cmp_total}
 use Rattle.std.specs.FinMap as fin
 use Rattle.std.specs.FinMap.{nat_cmp-IsAntisymmetric, slice_cmp-IsAntisymmetric}
-use Rattle.jam_accounts.proofs.Maps.{equal}
 use Rattle.jam_outside.specs.Files.{Files, content}
+use Rattle.jam_outside.specs.Causes.{VaultState, SinkState, Raised, counted_where, Appends, AppendsPrefix, store_done}
 use Rattle.jam_cli.specs.declared.status.Status.{Status}
-use Rattle.jam_cli.specs.declared.status.Status.TheVariants.{Done, NoMemory, BadWords, ReadFault, TooLong, Refused, SinkFault, StoreFault}
-use Rattle.jam_cli.specs.Command.{Command, run, hash, accumulate, Asks, Input, inputs, Values, stored}
-use Rattle.jam_cli.specs.Ending.{Call, AllRead, SpellAll, FirstTooLong, FirstRefused, FirstNamed, Gives, PrintedAll, KeepsFiles, StoredAll, CallEnds, DoneMeans, BadWordsMeans, BadWordsComes, ReadFaultMeans, TooLongMeans, TooLongComes, RefusedMeans, RefusedComes, SinkFaultMeans, StoreFaultMeans, NoMemoryMeans, SilentMeans, OthersKeepFiles, AllKept, InputsKept, with_stored, ServedIsDone}
+use Rattle.jam_cli.specs.declared.status.Status.TheVariants as status
+use Rattle.jam_cli.specs.declared.refusal.Refusal.{Refusal}
+use Rattle.jam_cli.specs.declared.refusal.Refusal.TheVariants.{NoMemory, BadWords, ReadFault, TooLong, NotSpelled, SinkFault, StoreFault}
+use Rattle.jam_cli.specs.declared.verb.Kind.{Kind}
+use Rattle.jam_cli.specs.Table.{Command, Asks, Input, inputs, stored_name, NamesNone}
+use Rattle.jam_cli.specs.Command.{File, held, kinds, Values, SpellAll, Work, work}
+use Rattle.jam_cli.specs.Ending.{Call, limit, WasRead, AllRead, FirstTooLong, FirstRefused, Gives, PrintedNothing, PrintedAll, PrintedPrefix, KeepsFiles, StoredAll, with_entry, IsReadFault, IsTooLong, IsRefused, DoneMeans, BadWordsMeans, BadWordsComes, ReadFaultMeans, TooLongMeans, TooLongComes, RefusedMeans, RefusedComes, SinkFaultMeans, StoreFaultMeans, NoMemoryMeans, SilentMeans, OthersKeepFiles, AllKept, InputsKept, CountsFaults, KeepsNames, CountsStores, ServedIsDone}
+use Rattle.jam_cli.specs.Parts.{Makes, Untouched, PrintsAll, Ends, CallEnds, status_of, entry_stored, name_in}
+use Rattle.jam_cli.proofs.Once.{once, refuse_once, entry_named}
+use Rattle.jam_cli.proofs.Carried.{follows, prefix_all}
 
--- words ask for one command at most
-pub one_command : (c d : Command) (words : List (List ℕ)) → Asks c words → Asks d words → c ≡ d
-one_command (run blob gas) (run name fuel) words p q =
-    let same : codes "run" ∷ (blob ∷ (p.0 ∷ [])) ≡ codes "run" ∷ (name ∷ (q.0 ∷ [])) = sym p.3 ∙ q.3 in
-    let names : blob ≡ name = cc in
-    let digits : p.0 ≡ q.0 = cc in
-    let numbers : gas ≡ fuel = decimal_injective gas fuel (omega (arith, p.2.0)) (omega (arith, q.2.0)) (sym p.2.1 ∙ digits ∙ q.2.1) in
-    cc
-one_command (hash file) (hash name) words p q =
-    let same : codes "hash" ∷ (file ∷ []) ≡ codes "hash" ∷ (name ∷ []) = sym p.1 ∙ q.1 in
-    let names : file ≡ name = cc in
-    cc
-one_command (run blob gas) (hash name) words p q =
-    let same : codes "run" ∷ (blob ∷ (p.0 ∷ [])) ≡ codes "hash" ∷ (name ∷ []) = sym p.3 ∙ q.1 in
-    absurd (cc same)
-one_command (hash file) (run name fuel) words p q =
-    let same : codes "hash" ∷ (file ∷ []) ≡ codes "run" ∷ (name ∷ (q.0 ∷ [])) = sym p.1 ∙ q.3 in
-    absurd (cc same)
-one_command (accumulate state batch posterior slice) (accumulate one two name other) words p q =
-    let same : codes "accumulate" ∷ (state ∷ (batch ∷ (posterior ∷ (p.number ∷ [])))) ≡ codes "accumulate" ∷ (one ∷ (two ∷ (name ∷ (q.number ∷ [])))) = sym p.words_are ∙ q.words_are in
-    let states : state ≡ one = cc in
-    let batches : batch ≡ two = cc in
-    let names : posterior ≡ name = cc in
-    let slices : slice ≡ other = p.is_zero ∙ sym q.is_zero in
-    cc
-one_command (run blob gas) (accumulate state batch posterior slice) words p q =
-    let same : codes "run" ∷ (blob ∷ (p.0 ∷ [])) ≡ codes "accumulate" ∷ (state ∷ (batch ∷ (posterior ∷ (q.number ∷ [])))) = sym p.3 ∙ q.words_are in
-    absurd (cc same)
-one_command (hash file) (accumulate state batch posterior slice) words p q =
-    let same : codes "hash" ∷ (file ∷ []) ≡ codes "accumulate" ∷ (state ∷ (batch ∷ (posterior ∷ (q.number ∷ [])))) = sym p.1 ∙ q.words_are in
-    absurd (cc same)
-one_command (accumulate state batch posterior slice) (run blob gas) words p q =
-    let same : codes "accumulate" ∷ (state ∷ (batch ∷ (posterior ∷ (p.number ∷ [])))) ≡ codes "run" ∷ (blob ∷ (q.0 ∷ [])) = sym p.words_are ∙ q.3 in
-    absurd (cc same)
-one_command (accumulate state batch posterior slice) (hash file) words p q =
-    let same : codes "accumulate" ∷ (state ∷ (batch ∷ (posterior ∷ (p.number ∷ [])))) ≡ codes "hash" ∷ (file ∷ []) = sym p.words_are ∙ q.1 in
-    absurd (cc same)
+abbrev Words : Type 0
+Words = List (List ℕ)
 
--- where a fact holds of what is told, so does what follows from it
-pub where_told : {A : Type 0} (o : Option A) (P Q : A → Type 0) → ((x : A) → P x → Q x) → IfSome o P → IfSome o Q
-where_told None P Q f h = tt
-where_told (Some x) P Q f h = f x h
+-- ---- What is told
 
-pub wherever : {A : Type 0} (o : Option A) (Q : A → Type 0) → ((x : A) → Q x) → IfSome o Q
+pub wherever : {A : Type 0} (o : Option A) (Q : A → Type 0) → ((x : A) → o ≡ Some x → Q x) → IfSome o Q
 wherever None Q f = tt
-wherever (Some x) Q f = f x
+wherever (Some x) Q f = f x refl
 
 pub at_told : {A : Type 0} (o : Option A) (x : A) (P : A → Type 0) → o ≡ Some x → IfSome o P → P x
 at_told {A = A} o x P e h = let Q : Option A → Type 0 = λ v. IfSome v P in subst Q e h
 
+-- ---- The first file of a kind
+
 -- a file that is too long was not read
-read-not_long : (files : Files) (is : List Input) (word : ℕ) → AllRead files is → FirstTooLong files is word → ⊥
-read-not_long files [] word r l = l
-read-not_long files (i ∷ is) word r l = elim l [ inl here ↦ omega (arith, r.0, here.1) | inr later ↦ read-not_long files is word r.1 later.1 ]
+read-not_long : (fs : List File) (word : ℕ) → AllRead fs → FirstTooLong fs word → ⊥
+read-not_long [] word r l = l
+read-not_long (f ∷ fs) word r l = elim l [ inl here ↦ omega (arith, r.0, here.1) | inr later ↦ read-not_long fs word r.1 later.1 ]
 
-one_too_long : (files : Files) (is : List Input) (v w : ℕ) → FirstTooLong files is v → FirstTooLong files is w → v ≡ w
-one_too_long files [] v w p q = absurd p
-one_too_long files (i ∷ is) v w p q = elim p [
+one_too_long : (fs : List File) (v w : ℕ) → FirstTooLong fs v → FirstTooLong fs w → v ≡ w
+one_too_long [] v w p q = absurd p
+one_too_long (f ∷ fs) v w p q = elim p [
   | inl here ↦ elim q [ inl there ↦ sym here.0 ∙ there.0 | inr later ↦ absurd (omega (arith, here.1, later.0)) ]
-  | inr after ↦ elim q [ inl there ↦ absurd (omega (arith, there.1, after.0)) | inr later ↦ one_too_long files is v w after.1 later.1 ]
+  | inr after ↦ elim q [ inl there ↦ absurd (omega (arith, there.1, after.0)) | inr later ↦ one_too_long fs v w after.1 later.1 ]
 ]
 
--- files that spell values are not refused
-spelled-not_refused : (files : Files) (is : List Input) (values : Values is) (word : ℕ) → SpellAll files is values → FirstRefused files is word → ⊥
-spelled-not_refused files [] values word s r = r
-spelled-not_refused files (i ∷ is) values word s r = elim r [ inl here ↦ here.1 values.0 s.0 | inr later ↦ spelled-not_refused files is values.1 word s.1 later.1 ]
-
-one_refused : (files : Files) (is : List Input) (v w : ℕ) → FirstRefused files is v → FirstRefused files is w → v ≡ w
-one_refused files [] v w p q = absurd p
-one_refused files (i ∷ is) v w p q = elim p [
-  | inl here ↦ elim q [ inl there ↦ sym here.0 ∙ there.0 | inr later ↦ absurd (here.1 later.0.0 later.0.1) ]
-  | inr after ↦ elim q [ inl there ↦ absurd (there.1 after.0.0 after.0.1) | inr later ↦ one_refused files is v w after.1 later.1 ]
+-- the word and the place are one
+one_refused : (fs : List File) (v w p q : ℕ) → FirstRefused fs v p → FirstRefused fs w q → (v ≡ w) × (p ≡ q)
+one_refused [] v w p q a b = absurd a
+one_refused (f ∷ fs) v w p q a b = elim a [
+  | inl here ↦ elim b [ inl there ↦ (sym here.0 ∙ there.0, refuse_once f.input.kind f.bytes p q here.1 there.1) | inr later ↦ absurd (here.1.1 later.0) ]
+  | inr after ↦ elim b [ inl there ↦ absurd (there.1.1 after.0) | inr later ↦ one_refused fs v w p q after.1 later.1 ]
 ]
 
--- a command's files are those of every command with its words
-its_own : (P : List Input → Type 0) (c d : Command) (words : List (List ℕ)) → Asks c words → Asks d words → P (inputs c) → P (inputs d)
-its_own P c d words p q h = let Q : Command → Type 0 = λ e. P (inputs e) in subst Q (one_command c d words p q) h
+-- ---- A command's files are those of every command with its words
 
-gives-not_long : (files : Files) (c d : Command) (words : List (List ℕ)) (word : ℕ) → Asks c words → Asks d words → (values : Values (inputs c)) → Gives files c values → FirstTooLong files (inputs d) word → ⊥
-gives-not_long files c d words word p q values g l = read-not_long files (inputs d) word (its_own (λ is. AllRead files is) c d words p q g.0) l
+its_own : (P : Command → Type 0) (c d : Command) (words : Words) → Asks c words → Asks d words → P c → P d
+its_own P c d words p q h = subst P (once c d words p q) h
 
-gives-not_refused : (files : Files) (c d : Command) (words : List (List ℕ)) (word : ℕ) → Asks c words → Asks d words → (values : Values (inputs c)) → Gives files c values → FirstRefused files (inputs d) word → ⊥
-gives-not_refused files c d words word p q values g l = spelled-not_refused files (inputs c) values word g.1 (its_own (λ is. FirstRefused files is word) d c words q p l)
+gives-not_long : (files : Files) (c d : Command) (words : Words) (word : ℕ) → Asks c words → Asks d words → (values : Values (kinds (inputs c))) → Gives files c values → FirstTooLong (held files (inputs d)) word → ⊥
+gives-not_long files c d words word p q values g l = read-not_long (held files (inputs d)) word (its_own (λ e. AllRead (held files (inputs e))) c d words p q g.0) l
 
-pub done_means : (status : Status) (words : List (List ℕ)) (k : Call) → CallEnds status words k → DoneMeans status words k
-done_means Done words k e is = where_told k.vault.files _ _ (λ files both. (e.0, e.1, both.0, both.1)) e.2
-done_means NoMemory words k e is = absurd (cc is)
-done_means BadWords words k e is = absurd (cc is)
-done_means (ReadFault w) words k e is = absurd (cc is)
-done_means (TooLong w) words k e is = absurd (cc is)
-done_means (Refused w place) words k e is = absurd (cc is)
-done_means SinkFault words k e is = absurd (cc is)
-done_means StoreFault words k e is = absurd (cc is)
+spells-not_refused : (files : Files) (is : List Input) (values : Values (kinds is)) (word place : ℕ) → SpellAll (kinds is) values (held files is) → FirstRefused (held files is) word place → ⊥
+spells-not_refused files [] values word place s r = r
+spells-not_refused files (i ∷ is) values word place s r = elim r [ inl here ↦ here.1.1 (values.0, s.0) | inr later ↦ spells-not_refused files is values.1 word place s.1 later.1 ]
 
-pub bad_words_means : (status : Status) (words : List (List ℕ)) (k : Call) → CallEnds status words k → BadWordsMeans status words
-bad_words_means BadWords words k e is = e.0
-bad_words_means Done words k e is = absurd (cc is)
-bad_words_means NoMemory words k e is = absurd (cc is)
-bad_words_means (ReadFault w) words k e is = absurd (cc is)
-bad_words_means (TooLong w) words k e is = absurd (cc is)
-bad_words_means (Refused w place) words k e is = absurd (cc is)
-bad_words_means SinkFault words k e is = absurd (cc is)
-bad_words_means StoreFault words k e is = absurd (cc is)
+gives-not_refused : (files : Files) (c d : Command) (words : Words) (word place : ℕ) → Asks c words → Asks d words → (values : Values (kinds (inputs c))) → Gives files c values → FirstRefused (held files (inputs d)) word place → ⊥
+gives-not_refused files c d words word place p q values g r =
+    spells-not_refused files (inputs c) values word place g.1 (its_own (λ e. FirstRefused (held files (inputs e)) word place) d c words q p r)
 
-pub bad_words_comes : (status : Status) (words : List (List ℕ)) (k : Call) → CallEnds status words k → BadWordsComes status words
-bad_words_comes BadWords words k e none = inl refl
-bad_words_comes NoMemory words k e none = inr refl
-bad_words_comes Done words k e none = absurd (none e.0 e.1)
-bad_words_comes (ReadFault w) words k e none = absurd (none e.0 e.1)
-bad_words_comes (TooLong w) words k e none = absurd (none e.0 e.1)
-bad_words_comes (Refused w place) words k e none = absurd (none e.0 e.1)
-bad_words_comes SinkFault words k e none = absurd (none e.0 e.1)
-bad_words_comes StoreFault words k e none = absurd (none e.0 e.1)
+-- ---- What a command makes, as it is told
 
-pub read_fault_means : (status : Status) (words : List (List ℕ)) (k : Call) → CallEnds status words k → ReadFaultMeans status words k
-read_fault_means (ReadFault w) words k e word is =
+abbrev pub Known : Command → Files → Work → Type 0
+Known c files w = (values : Values (kinds (inputs c))) × Gives files c values × (w ≡ work c values)
+
+known-all : (c : Command) (k : Call) (files : Files) (w : Work) → PrintsAll k w → Known c files w → PrintedAll k files c
+known-all c k files w prints (values, g, is) = (values, g, subst (λ (u : Work). Appends k.sink.taken k.sink_after.taken u.printed) is prints.0)
+
+known-prefix : (c : Command) (k : Call) (files : Files) (w : Work) → AppendsPrefix k.sink.taken k.sink_after.taken w.printed → Known c files w → PrintedPrefix k files c
+known-prefix c k files w prints (values, g, is) = (values, g, subst (λ (u : Work). AppendsPrefix k.sink.taken k.sink_after.taken u.printed) is prints)
+
+-- the files after a store
+stored_files : (entry : Option (List ℕ × List ℕ)) (v : VaultState) (files : Files) → v.files ≡ Some files → (entry_stored entry v).files ≡ Some (with_entry entry files)
+stored_files None v files told = told
+stored_files (Some e) v files told = ap (option_map (λ (held : Files). fin.insert held e.0 e.1)) told
+
+known-stored : (c : Command) (k : Call) (files : Files) (w : Work) → k.vault.files ≡ Some files → k.vault_after ≡ entry_stored w.entry k.vault → Known c files w → StoredAll k files c
+known-stored c k files w told after (values, g, is) =
+    (values, g, ap (λ (v : VaultState). v.files) after ∙ stored_files w.entry k.vault files told ∙ ap (λ (u : Work). Some (with_entry u.entry files)) is)
+
+-- ---- Each status
+
+pub done_means : (r : Result (Unit {0}) Refusal) (words : Words) (k : Call) → CallEnds r words k → DoneMeans (status_of r) words k
+done_means (Ok x) words k (c, asks, (w, made, prints, after)) is = (
+  c,
+  asks,
+  wherever k.vault.files _ (λ files told. let known = at_told k.vault.files files (λ files. Known c files w) told made.gives in
+      (known-all c k files w prints known, known-stored c k files w told after known)),
+)
+done_means (Err NoMemory) words k e is = absurd (cc is)
+done_means (Err BadWords) words k e is = absurd (cc is)
+done_means (Err (ReadFault w)) words k e is = absurd (cc is)
+done_means (Err (TooLong w)) words k e is = absurd (cc is)
+done_means (Err (NotSpelled w place)) words k e is = absurd (cc is)
+done_means (Err SinkFault) words k e is = absurd (cc is)
+done_means (Err StoreFault) words k e is = absurd (cc is)
+
+pub bad_words_means : (r : Result (Unit {0}) Refusal) (words : Words) (k : Call) → CallEnds r words k → BadWordsMeans (status_of r) words
+bad_words_means (Err BadWords) words k e is = e.0
+bad_words_means (Ok x) words k e is = absurd (cc is)
+bad_words_means (Err NoMemory) words k e is = absurd (cc is)
+bad_words_means (Err (ReadFault w)) words k e is = absurd (cc is)
+bad_words_means (Err (TooLong w)) words k e is = absurd (cc is)
+bad_words_means (Err (NotSpelled w place)) words k e is = absurd (cc is)
+bad_words_means (Err SinkFault) words k e is = absurd (cc is)
+bad_words_means (Err StoreFault) words k e is = absurd (cc is)
+
+pub bad_words_comes : (r : Result (Unit {0}) Refusal) (words : Words) (k : Call) → CallEnds r words k → BadWordsComes (status_of r) words
+bad_words_comes (Err BadWords) words k e none = inl refl
+bad_words_comes (Err NoMemory) words k e none = inr refl
+bad_words_comes (Ok x) words k e none = absurd (none e.0 e.1)
+bad_words_comes (Err (ReadFault w)) words k e none = absurd (none e.0 e.1)
+bad_words_comes (Err (TooLong w)) words k e none = absurd (none e.0 e.1)
+bad_words_comes (Err (NotSpelled w place)) words k e none = absurd (none e.0 e.1)
+bad_words_comes (Err SinkFault) words k e none = absurd (none e.0 e.1)
+bad_words_comes (Err StoreFault) words k e none = absurd (none e.0 e.1)
+
+pub read_fault_means : (r : Result (Unit {0}) Refusal) (words : Words) (k : Call) → CallEnds r words k → ReadFaultMeans (status_of r) words k
+read_fault_means (Err (ReadFault w)) words k e word is =
     let same : w ≡ word = cc in
-    (e.2.0, (e.0, e.1, subst (λ v. FirstNamed k.vault_after.failed (inputs e.0) v) same e.2.1))
-read_fault_means Done words k e word is = absurd (cc is)
-read_fault_means NoMemory words k e word is = absurd (cc is)
-read_fault_means BadWords words k e word is = absurd (cc is)
-read_fault_means (TooLong w) words k e word is = absurd (cc is)
-read_fault_means (Refused w place) words k e word is = absurd (cc is)
-read_fault_means SinkFault words k e word is = absurd (cc is)
-read_fault_means StoreFault words k e word is = absurd (cc is)
+    (e.0, e.1, subst (λ v. IsReadFault e.0 k v) same e.2.0)
+read_fault_means (Ok x) words k e word is = absurd (cc is)
+read_fault_means (Err NoMemory) words k e word is = absurd (cc is)
+read_fault_means (Err BadWords) words k e word is = absurd (cc is)
+read_fault_means (Err (TooLong w)) words k e word is = absurd (cc is)
+read_fault_means (Err (NotSpelled w place)) words k e word is = absurd (cc is)
+read_fault_means (Err SinkFault) words k e word is = absurd (cc is)
+read_fault_means (Err StoreFault) words k e word is = absurd (cc is)
 
-pub too_long_means : (status : Status) (words : List (List ℕ)) (k : Call) → CallEnds status words k → TooLongMeans status words k
-too_long_means (TooLong w) words k e word is =
+pub too_long_means : (r : Result (Unit {0}) Refusal) (words : Words) (k : Call) → CallEnds r words k → TooLongMeans (status_of r) words k
+too_long_means (Err (TooLong w)) words k e word is =
     let same : w ≡ word = cc in
-    where_told k.vault.files _ _ (λ files long. (e.0, e.1, subst (λ v. FirstTooLong files (inputs e.0) v) same long)) e.2.0
-too_long_means Done words k e word is = absurd (cc is)
-too_long_means NoMemory words k e word is = absurd (cc is)
-too_long_means BadWords words k e word is = absurd (cc is)
-too_long_means (ReadFault w) words k e word is = absurd (cc is)
-too_long_means (Refused w place) words k e word is = absurd (cc is)
-too_long_means SinkFault words k e word is = absurd (cc is)
-too_long_means StoreFault words k e word is = absurd (cc is)
+    (e.0, e.1, subst (λ v. IsTooLong e.0 k v) same e.2.0)
+too_long_means (Ok x) words k e word is = absurd (cc is)
+too_long_means (Err NoMemory) words k e word is = absurd (cc is)
+too_long_means (Err BadWords) words k e word is = absurd (cc is)
+too_long_means (Err (ReadFault w)) words k e word is = absurd (cc is)
+too_long_means (Err (NotSpelled w place)) words k e word is = absurd (cc is)
+too_long_means (Err SinkFault) words k e word is = absurd (cc is)
+too_long_means (Err StoreFault) words k e word is = absurd (cc is)
 
-pub too_long_comes : (status : Status) (words : List (List ℕ)) (k : Call) → CallEnds status words k → TooLongComes status words k
-too_long_comes (TooLong w) words k e through =
-    where_told k.vault.files _ _ (λ files long d word asks there. ap TooLong (one_too_long files (inputs d) w word (its_own (λ is. FirstTooLong files is w) e.0 d words e.1 asks long) there)) e.2.0
-too_long_comes Done words k e through =
-    where_told k.vault.files _ _ (λ files both d word asks there. absurd (gives-not_long files e.0 d words word e.1 asks both.0.0 both.0.1 there)) e.2
-too_long_comes BadWords words k e through = wherever k.vault.files _ (λ files d word asks there. absurd (e.0 d asks))
-too_long_comes (Refused w place) words k e through =
-    where_told k.vault.files _ _ (λ files both d word asks there. absurd (read-not_long files (inputs d) word (its_own (λ is. AllRead files is) e.0 d words e.1 asks both.0) there)) e.2.1
-too_long_comes SinkFault words k e through =
-    where_told k.vault.files _ _ (λ files some d word asks there. absurd (gives-not_long files e.0 d words word e.1 asks some.0 some.1 there)) e.2.1
-too_long_comes StoreFault words k e through =
-    where_told k.vault.files _ _ (λ files all d word asks there. absurd (gives-not_long files e.0 d words word e.1 asks all.0 all.1 there)) e.2.2
-too_long_comes NoMemory words k e through = absurd through
-too_long_comes (ReadFault w) words k e through = absurd through
+-- a command that gave a text has no file that is too long or refused
+given-not_long : (c : Command) (words : Words) (k : Call) (w : Work) (end : Status) → Asks c words → Makes c k.vault w
+    → IfSome k.vault.files (λ files. (d : Command) (word : ℕ) → Asks d words → FirstTooLong (held files (inputs d)) word → end ≡ status.TooLong word)
+given-not_long c words k w end asks made =
+    follows k.vault.files (λ files. Known c files w) _ (λ files known d word other there. absurd (gives-not_long files c d words word asks other known.0 known.1 there)) made.gives
 
-pub refused_means : (status : Status) (words : List (List ℕ)) (k : Call) → CallEnds status words k → RefusedMeans status words k
-refused_means (Refused w p) words k e word place is =
+given-not_refused : (c : Command) (words : Words) (k : Call) (w : Work) (end : Status) → Asks c words → Makes c k.vault w
+    → IfSome k.vault.files (λ files. (d : Command) (word place : ℕ) → Asks d words → AllRead (held files (inputs d)) → FirstRefused (held files (inputs d)) word place → end ≡ status.Refused word place)
+given-not_refused c words k w end asks made =
+    follows k.vault.files (λ files. Known c files w) _ (λ files known d word place other read there. absurd (gives-not_refused files c d words word place asks other known.0 known.1 there)) made.gives
+
+pub too_long_comes : (r : Result (Unit {0}) Refusal) (words : Words) (k : Call) → CallEnds r words k → TooLongComes (status_of r) words k
+too_long_comes (Err (TooLong w)) words k e through =
+    follows k.vault.files (λ files. FirstTooLong (held files (inputs e.0)) w) _ (λ files long d word asks there.
+    ap status.TooLong (one_too_long (held files (inputs d)) w word (its_own (λ c. FirstTooLong (held files (inputs c)) w) e.0 d words e.1 asks long) there)) e.2.0.first
+too_long_comes (Ok x) words k (c, asks, ends) through = given-not_long c words k ends.0 _ asks ends.1
+too_long_comes (Err BadWords) words k e through = wherever k.vault.files _ (λ files told d word asks there. absurd (e.0 d asks))
+too_long_comes (Err (NotSpelled w place)) words k e through =
+    follows k.vault.files (λ files. AllRead (held files (inputs e.0)) × FirstRefused (held files (inputs e.0)) w place) _ (λ files both d word asks there.
+    absurd (read-not_long (held files (inputs d)) word (its_own (λ c. AllRead (held files (inputs c))) e.0 d words e.1 asks both.0) there)) e.2.0.first
+too_long_comes (Err SinkFault) words k (c, asks, ends) through = given-not_long c words k ends.0 _ asks ends.1
+too_long_comes (Err StoreFault) words k (c, asks, ends) through = given-not_long c words k ends.0 _ asks ends.1
+too_long_comes (Err NoMemory) words k e through = absurd through
+too_long_comes (Err (ReadFault w)) words k e through = absurd through
+
+pub refused_means : (r : Result (Unit {0}) Refusal) (words : Words) (k : Call) → CallEnds r words k → RefusedMeans (status_of r) words k
+refused_means (Err (NotSpelled w p)) words k e word place is =
     let same : w ≡ word = cc in
-    let zero_place : p ≡ place = cc in
-    (sym zero_place ∙ e.2.0, where_told k.vault.files _ _ (λ files both. (e.0, e.1, both.0, subst (λ v. FirstRefused files (inputs e.0) v) same both.1)) e.2.1)
-refused_means Done words k e word place is = absurd (cc is)
-refused_means NoMemory words k e word place is = absurd (cc is)
-refused_means BadWords words k e word place is = absurd (cc is)
-refused_means (ReadFault w) words k e word place is = absurd (cc is)
-refused_means (TooLong w) words k e word place is = absurd (cc is)
-refused_means SinkFault words k e word place is = absurd (cc is)
-refused_means StoreFault words k e word place is = absurd (cc is)
+    let places : p ≡ place = cc in
+    (e.0, e.1, subst (λ v. IsRefused e.0 k v place) same (subst (λ q. IsRefused e.0 k w q) places e.2.0))
+refused_means (Ok x) words k e word place is = absurd (cc is)
+refused_means (Err NoMemory) words k e word place is = absurd (cc is)
+refused_means (Err BadWords) words k e word place is = absurd (cc is)
+refused_means (Err (ReadFault w)) words k e word place is = absurd (cc is)
+refused_means (Err (TooLong w)) words k e word place is = absurd (cc is)
+refused_means (Err SinkFault) words k e word place is = absurd (cc is)
+refused_means (Err StoreFault) words k e word place is = absurd (cc is)
 
-pub refused_comes : (status : Status) (words : List (List ℕ)) (k : Call) → CallEnds status words k → RefusedComes status words k
-refused_comes (Refused w place) words k e through =
-    where_told k.vault.files _ _ (λ files both d word asks read there.
-    let same : w ≡ word = one_refused files (inputs d) w word (its_own (λ is. FirstRefused files is w) e.0 d words e.1 asks both.1) there in
-    let none : place ≡ 0 = e.2.0 in
-    cc) e.2.1
-refused_comes Done words k e through =
-    where_told k.vault.files _ _ (λ files both d word asks read there. absurd (gives-not_refused files e.0 d words word e.1 asks both.0.0 both.0.1 there)) e.2
-refused_comes BadWords words k e through = wherever k.vault.files _ (λ files d word asks read there. absurd (e.0 d asks))
-refused_comes (TooLong w) words k e through =
-    where_told k.vault.files _ _ (λ files long d word asks read there. absurd (read-not_long files (inputs d) w read (its_own (λ is. FirstTooLong files is w) e.0 d words e.1 asks long))) e.2.0
-refused_comes SinkFault words k e through =
-    where_told k.vault.files _ _ (λ files some d word asks read there. absurd (gives-not_refused files e.0 d words word e.1 asks some.0 some.1 there)) e.2.1
-refused_comes StoreFault words k e through =
-    where_told k.vault.files _ _ (λ files all d word asks read there. absurd (gives-not_refused files e.0 d words word e.1 asks all.0 all.1 there)) e.2.2
-refused_comes NoMemory words k e through = absurd through
-refused_comes (ReadFault w) words k e through = absurd through
+pub refused_comes : (r : Result (Unit {0}) Refusal) (words : Words) (k : Call) → CallEnds r words k → RefusedComes (status_of r) words k
+refused_comes (Err (NotSpelled w p)) words k e through =
+    follows k.vault.files (λ files. AllRead (held files (inputs e.0)) × FirstRefused (held files (inputs e.0)) w p) _ (λ files both d word place asks read there.
+    let same = one_refused (held files (inputs d)) w word p place (its_own (λ c. FirstRefused (held files (inputs c)) w p) e.0 d words e.1 asks both.1) there in
+    ap (λ v. status.Refused v p) same.0 ∙ ap (λ q. status.Refused word q) same.1) e.2.0.first
+refused_comes (Ok x) words k (c, asks, ends) through = given-not_refused c words k ends.0 _ asks ends.1
+refused_comes (Err BadWords) words k e through = wherever k.vault.files _ (λ files told d word place asks read there. absurd (e.0 d asks))
+refused_comes (Err (TooLong w)) words k e through =
+    follows k.vault.files (λ files. FirstTooLong (held files (inputs e.0)) w) _ (λ files long d word place asks read there.
+    absurd (read-not_long (held files (inputs d)) w read (its_own (λ c. FirstTooLong (held files (inputs c)) w) e.0 d words e.1 asks long))) e.2.0.first
+refused_comes (Err SinkFault) words k (c, asks, ends) through = given-not_refused c words k ends.0 _ asks ends.1
+refused_comes (Err StoreFault) words k (c, asks, ends) through = given-not_refused c words k ends.0 _ asks ends.1
+refused_comes (Err NoMemory) words k e through = absurd through
+refused_comes (Err (ReadFault w)) words k e through = absurd through
 
-pub sink_fault_means : (status : Status) (words : List (List ℕ)) (k : Call) → CallEnds status words k → SinkFaultMeans status words k
-sink_fault_means SinkFault words k e is = (e.2.0, where_told k.vault.files _ _ (λ files some. (e.0, e.1, some)) e.2.1)
-sink_fault_means Done words k e is = absurd (cc is)
-sink_fault_means NoMemory words k e is = absurd (cc is)
-sink_fault_means BadWords words k e is = absurd (cc is)
-sink_fault_means (ReadFault w) words k e is = absurd (cc is)
-sink_fault_means (TooLong w) words k e is = absurd (cc is)
-sink_fault_means (Refused w place) words k e is = absurd (cc is)
-sink_fault_means StoreFault words k e is = absurd (cc is)
+pub sink_fault_means : (r : Result (Unit {0}) Refusal) (words : Words) (k : Call) → CallEnds r words k → SinkFaultMeans (status_of r) words k
+sink_fault_means (Err SinkFault) words k (c, asks, (w, made, prints, raised, kept)) is =
+    (c, asks, record { raised = raised; printed = follows k.vault.files (λ files. Known c files w) _ (λ files known. known-prefix c k files w prints known) made.gives })
+sink_fault_means (Ok x) words k e is = absurd (cc is)
+sink_fault_means (Err NoMemory) words k e is = absurd (cc is)
+sink_fault_means (Err BadWords) words k e is = absurd (cc is)
+sink_fault_means (Err (ReadFault w)) words k e is = absurd (cc is)
+sink_fault_means (Err (TooLong w)) words k e is = absurd (cc is)
+sink_fault_means (Err (NotSpelled w place)) words k e is = absurd (cc is)
+sink_fault_means (Err StoreFault) words k e is = absurd (cc is)
 
-pub store_fault_means : (status : Status) (words : List (List ℕ)) (k : Call) → CallEnds status words k → StoreFaultMeans status words k
-store_fault_means StoreFault words k e is = (e.2.0, (e.0, e.1, e.2.1, e.2.2))
-store_fault_means Done words k e is = absurd (cc is)
-store_fault_means NoMemory words k e is = absurd (cc is)
-store_fault_means BadWords words k e is = absurd (cc is)
-store_fault_means (ReadFault w) words k e is = absurd (cc is)
-store_fault_means (TooLong w) words k e is = absurd (cc is)
-store_fault_means (Refused w place) words k e is = absurd (cc is)
-store_fault_means SinkFault words k e is = absurd (cc is)
+pub store_fault_means : (r : Result (Unit {0}) Refusal) (words : Words) (k : Call) → CallEnds r words k → StoreFaultMeans (status_of r) words k
+store_fault_means (Err StoreFault) words k (c, asks, (w, made, prints, (name, named, after))) is = (
+  c,
+  asks,
+  record {
+    raised = ap (λ (v : VaultState). v.store_faults) after;
+    name = sym made.named ∙ named ∙ ap (λ (v : VaultState). Some v.store_failed) (sym after);
+    printed = follows k.vault.files (λ files. Known c files w) _ (λ files known. known-all c k files w prints known) made.gives;
+  },
+)
+store_fault_means (Ok x) words k e is = absurd (cc is)
+store_fault_means (Err NoMemory) words k e is = absurd (cc is)
+store_fault_means (Err BadWords) words k e is = absurd (cc is)
+store_fault_means (Err (ReadFault w)) words k e is = absurd (cc is)
+store_fault_means (Err (TooLong w)) words k e is = absurd (cc is)
+store_fault_means (Err (NotSpelled w place)) words k e is = absurd (cc is)
+store_fault_means (Err SinkFault) words k e is = absurd (cc is)
 
-pub no_memory_means : (status : Status) (words : List (List ℕ)) (k : Call) → CallEnds status words k → NoMemoryMeans status words k
-no_memory_means NoMemory words k e is = e.0
-no_memory_means Done words k e is = absurd (cc is)
-no_memory_means BadWords words k e is = absurd (cc is)
-no_memory_means (ReadFault w) words k e is = absurd (cc is)
-no_memory_means (TooLong w) words k e is = absurd (cc is)
-no_memory_means (Refused w place) words k e is = absurd (cc is)
-no_memory_means SinkFault words k e is = absurd (cc is)
-no_memory_means StoreFault words k e is = absurd (cc is)
+-- where memory runs out before anything is printed, or after
+abbrev SomePrinted : Words → Call → Type 0
+SomePrinted words k = PrintedNothing k ⊎ ((c : Command) × Asks c words × IfSome k.vault.files (λ files. PrintedPrefix k files c))
 
-pub silent_means : (status : Status) (words : List (List ℕ)) (k : Call) → CallEnds status words k → SilentMeans status k
-silent_means BadWords words k e is = e.1
-silent_means (ReadFault w) words k e is = e.2.2
-silent_means (TooLong w) words k e is = e.2.1
-silent_means (Refused w place) words k e is = e.2.2
-silent_means Done words k e is = absurd is
-silent_means NoMemory words k e is = absurd is
-silent_means SinkFault words k e is = absurd is
-silent_means StoreFault words k e is = absurd is
+quiet : (k : Call) → Untouched k → PrintedNothing k
+quiet k same = ap (λ (t : SinkState). t.taken) same.1
 
-pub others_keep_files : (status : Status) (words : List (List ℕ)) (k : Call) → CallEnds status words k → OthersKeepFiles status k
-others_keep_files Done words k e other = absurd (other refl)
-others_keep_files NoMemory words k e other = e.1
-others_keep_files BadWords words k e other = e.2
-others_keep_files (ReadFault w) words k e other = e.2.3
-others_keep_files (TooLong w) words k e other = e.2.2
-others_keep_files (Refused w place) words k e other = e.2.3
-others_keep_files SinkFault words k e other = e.2.2
-others_keep_files StoreFault words k e other = e.2.3
+kept : (k : Call) → Untouched k → KeepsFiles k
+kept k same = ap (λ (v : VaultState). v.files) same.0
 
-pub served_is_done : (status : Status) (words : List (List ℕ)) (k : Call) → CallEnds status words k → ServedIsDone status words k
-served_is_done Done words k e served = inl refl
-served_is_done NoMemory words k e served = inr refl
-served_is_done BadWords words k e served = absurd (e.0 served.command served.asks)
-served_is_done (ReadFault w) words k e served = absurd (served.reads e.2.0)
-served_is_done (TooLong w) words k e served =
-    absurd (gives-not_long served.files served.command e.0 words w served.asks e.1 served.values served.gives (at_told k.vault.files served.files (λ files. FirstTooLong files (inputs e.0) w) served.told e.2.0))
-served_is_done (Refused w place) words k e served =
-    absurd (gives-not_refused served.files served.command e.0 words w served.asks e.1 served.values served.gives (at_told k.vault.files served.files (λ files. AllRead files (inputs e.0) × FirstRefused files (inputs e.0) w) served.told e.2.1).1)
-served_is_done SinkFault words k e served = absurd (served.puts e.2.0)
-served_is_done StoreFault words k e served = absurd (served.stores e.2.0)
+some_printed : (words : Words) (k : Call) (c : Command) → Asks c words → Ends (Err NoMemory) c k → SomePrinted words k
+some_printed words k c asks (inl same) = inl (quiet k same)
+some_printed words k c asks (inr (w, made, prints, after)) = inr (c, asks, follows k.vault.files (λ files. Known c files w) _ (λ files known. known-prefix c k files w prints.0 known) made.gives)
 
-same_content : (before after : Files) (is : List Input) → after ≡ before → AllKept before after is
-same_content before after [] e = tt
-same_content before after (i ∷ is) e = (ap (λ files. content files i.name) e, same_content before after is e)
+pub no_memory_means : (r : Result (Unit {0}) Refusal) (words : Words) (k : Call) → CallEnds r words k → NoMemoryMeans (status_of r) words k
+no_memory_means (Err NoMemory) words k (inl same) is = inl (quiet k same)
+no_memory_means (Err NoMemory) words k (inr (c, asks, ends)) is = some_printed words k c asks ends
+no_memory_means (Ok x) words k e is = absurd (cc is)
+no_memory_means (Err BadWords) words k e is = absurd (cc is)
+no_memory_means (Err (ReadFault w)) words k e is = absurd (cc is)
+no_memory_means (Err (TooLong w)) words k e is = absurd (cc is)
+no_memory_means (Err (NotSpelled w place)) words k e is = absurd (cc is)
+no_memory_means (Err SinkFault) words k e is = absurd (cc is)
+no_memory_means (Err StoreFault) words k e is = absurd (cc is)
+
+pub silent_means : (r : Result (Unit {0}) Refusal) (words : Words) (k : Call) → CallEnds r words k → SilentMeans (status_of r) k
+silent_means (Err BadWords) words k e is = quiet k e.1
+silent_means (Err (ReadFault w)) words k e is = ap (λ (t : SinkState). t.taken) e.2.2
+silent_means (Err (TooLong w)) words k e is = quiet k e.2.1
+silent_means (Err (NotSpelled w place)) words k e is = quiet k e.2.1
+silent_means (Ok x) words k e is = absurd is
+silent_means (Err NoMemory) words k e is = absurd is
+silent_means (Err SinkFault) words k e is = absurd is
+silent_means (Err StoreFault) words k e is = absurd is
+
+short_kept : (k : Call) (c : Command) → Ends (Err NoMemory) c k → KeepsFiles k
+short_kept k c (inl same) = kept k same
+short_kept k c (inr (w, made, prints, inl after)) = ap (λ (v : VaultState). v.files) after
+short_kept k c (inr (w, made, prints, inr after)) = ap (λ (v : VaultState). v.files) after
+
+pub others_keep_files : (r : Result (Unit {0}) Refusal) (words : Words) (k : Call) → CallEnds r words k → OthersKeepFiles (status_of r) k
+others_keep_files (Ok x) words k e other = absurd (other refl)
+others_keep_files (Err NoMemory) words k (inl same) other = kept k same
+others_keep_files (Err NoMemory) words k (inr (c, asks, ends)) other = short_kept k c ends
+others_keep_files (Err BadWords) words k e other = kept k e.1
+others_keep_files (Err (ReadFault w)) words k e other = ap (λ (v : VaultState). v.files) e.2.1
+others_keep_files (Err (TooLong w)) words k e other = kept k e.2.1
+others_keep_files (Err (NotSpelled w place)) words k e other = kept k e.2.1
+others_keep_files (Err SinkFault) words k (c, asks, (w, made, prints, raised, after)) other = ap (λ (v : VaultState). v.files) after
+others_keep_files (Err StoreFault) words k (c, asks, (w, made, prints, (name, named, after))) other = ap (λ (v : VaultState). v.files) after
+
+-- a count is not raised where nothing failed
+pub served_is_done : (r : Result (Unit {0}) Refusal) (words : Words) (k : Call) → CallEnds r words k → ServedIsDone (status_of r) words k
+served_is_done (Ok x) words k e served = inl refl
+served_is_done (Err NoMemory) words k e served = inr refl
+served_is_done (Err BadWords) words k e served = absurd (e.0 served.command served.asks)
+served_is_done (Err (ReadFault w)) words k e served = absurd (served.reads e.2.0.raised)
+served_is_done (Err (TooLong w)) words k e served =
+    absurd (gives-not_long served.files served.command e.0 words w served.asks e.1 served.values served.gives (at_told k.vault.files served.files (λ files. FirstTooLong (held files (inputs e.0)) w) served.told e.2.0.first))
+served_is_done (Err (NotSpelled w p)) words k e served =
+    absurd (gives-not_refused served.files served.command e.0 words w p served.asks e.1 served.values served.gives (at_told k.vault.files served.files (λ files. AllRead (held files (inputs e.0)) × FirstRefused (held files (inputs e.0)) w p) served.told e.2.0.first).1)
+served_is_done (Err SinkFault) words k (c, asks, (w, made, prints, raised, after)) served = absurd (served.puts raised)
+served_is_done (Err StoreFault) words k (c, asks, (w, made, prints, (name, named, after))) served = absurd (served.stores (ap (λ (v : VaultState). v.store_faults) after))
+
+-- ---- The counts
+
+-- of a vault and a sink that are as they were
+counts_same : (k : Call) → k.vault_after ≡ k.vault → k.sink_after.faults ≡ k.sink.faults → CountsFaults status.Done k
+counts_same k vault sink = record { reads = ap (λ (v : VaultState). v.read_faults) vault; puts = sink; stores = ap (λ (v : VaultState). v.store_faults) vault }
+
+faults_of : (k : Call) → Untouched k → k.sink_after.faults ≡ k.sink.faults
+faults_of k same = ap (λ (t : SinkState). t.faults) same.1
+
+entry_counts : (entry : Option (List ℕ × List ℕ)) (v w : VaultState) → w ≡ entry_stored entry v
+    → (w.read_faults ≡ v.read_faults) × (w.store_faults ≡ v.store_faults) × (w.failed ≡ v.failed) × (w.failed_place ≡ v.failed_place) × (w.store_failed ≡ v.store_failed)
+    × (w.stores ≡ counted_where (is_some (name_in entry)) v.stores)
+entry_counts None v w e = (ap (λ (u : VaultState). u.read_faults) e, ap (λ (u : VaultState). u.store_faults) e, ap (λ (u : VaultState). u.failed) e, ap (λ (u : VaultState). u.failed_place) e, ap (λ (u : VaultState). u.store_failed) e, ap (λ (u : VaultState). u.stores) e)
+entry_counts (Some entry) v w e = (ap (λ (u : VaultState). u.read_faults) e, ap (λ (u : VaultState). u.store_faults) e, ap (λ (u : VaultState). u.failed) e, ap (λ (u : VaultState). u.failed_place) e, ap (λ (u : VaultState). u.store_failed) e, ap (λ (u : VaultState). u.stores) e)
+
+short_counts : (k : Call) (c : Command) → Ends (Err NoMemory) c k → CountsFaults status.NoMemory k
+short_counts k c (inl same) = let all = counts_same k same.0 (faults_of k same) in record { reads = all.reads; puts = all.puts; stores = all.stores }
+short_counts k c (inr (w, made, prints, inl after)) = record { reads = ap (λ (v : VaultState). v.read_faults) after; puts = prints.1; stores = ap (λ (v : VaultState). v.store_faults) after }
+short_counts k c (inr (w, made, prints, inr after)) = record { reads = ap (λ (v : VaultState). v.read_faults) after; puts = prints.1; stores = ap (λ (v : VaultState). v.store_faults) after }
+
+pub counts_faults : (r : Result (Unit {0}) Refusal) (words : Words) (k : Call) → CallEnds r words k → CountsFaults (status_of r) k
+counts_faults (Ok x) words k (c, asks, (w, made, prints, after)) =
+    let all = entry_counts w.entry k.vault k.vault_after after in
+    record { reads = all.0; puts = prints.1; stores = all.1 }
+counts_faults (Err NoMemory) words k (inl same) = record { reads = ap (λ (v : VaultState). v.read_faults) same.0; puts = faults_of k same; stores = ap (λ (v : VaultState). v.store_faults) same.0 }
+counts_faults (Err NoMemory) words k (inr (c, asks, ends)) = short_counts k c ends
+counts_faults (Err BadWords) words k e = record { reads = ap (λ (v : VaultState). v.read_faults) e.1.0; puts = faults_of k e.1; stores = ap (λ (v : VaultState). v.store_faults) e.1.0 }
+counts_faults (Err (ReadFault w)) words k e = record { reads = ap (λ (v : VaultState). v.read_faults) e.2.1; puts = ap (λ (t : SinkState). t.faults) e.2.2; stores = ap (λ (v : VaultState). v.store_faults) e.2.1 }
+counts_faults (Err (TooLong w)) words k e = record { reads = ap (λ (v : VaultState). v.read_faults) e.2.1.0; puts = faults_of k e.2.1; stores = ap (λ (v : VaultState). v.store_faults) e.2.1.0 }
+counts_faults (Err (NotSpelled w p)) words k e = record { reads = ap (λ (v : VaultState). v.read_faults) e.2.1.0; puts = faults_of k e.2.1; stores = ap (λ (v : VaultState). v.store_faults) e.2.1.0 }
+counts_faults (Err SinkFault) words k (c, asks, (w, made, prints, raised, after)) = record { reads = ap (λ (v : VaultState). v.read_faults) after; puts = raised; stores = ap (λ (v : VaultState). v.store_faults) after }
+counts_faults (Err StoreFault) words k (c, asks, (w, made, prints, (name, named, after))) = record { reads = ap (λ (v : VaultState). v.read_faults) after; puts = prints.1; stores = ap (λ (v : VaultState). v.store_faults) after }
+
+-- the names of an outside that is as it was
+names_same : (end : Status) (k : Call) → k.vault_after.failed ≡ k.vault.failed → k.vault_after.failed_place ≡ k.vault.failed_place → k.vault_after.store_failed ≡ k.vault.store_failed → KeepsNames end k
+names_same end k read place store = record { read = λ _. read; place = λ _. place; store = λ _. store }
+
+vault_same : (end : Status) (k : Call) → k.vault_after ≡ k.vault → KeepsNames end k
+vault_same end k e = names_same end k (ap (λ (v : VaultState). v.failed) e) (ap (λ (v : VaultState). v.failed_place) e) (ap (λ (v : VaultState). v.store_failed) e)
+
+short_names : (k : Call) (c : Command) → Ends (Err NoMemory) c k → KeepsNames status.NoMemory k
+short_names k c (inl same) = vault_same status.NoMemory k same.0
+short_names k c (inr (w, made, prints, inl after)) = vault_same status.NoMemory k after
+short_names k c (inr (w, made, prints, inr after)) = names_same status.NoMemory k (ap (λ (v : VaultState). v.failed) after) (ap (λ (v : VaultState). v.failed_place) after) (ap (λ (v : VaultState). v.store_failed) after)
+
+pub keeps_names : (r : Result (Unit {0}) Refusal) (words : Words) (k : Call) → CallEnds r words k → KeepsNames (status_of r) k
+keeps_names (Ok x) words k (c, asks, (w, made, prints, after)) =
+    let all = entry_counts w.entry k.vault k.vault_after after in
+    names_same status.Done k all.2 all.3 all.4
+keeps_names (Err NoMemory) words k (inl same) = vault_same status.NoMemory k same.0
+keeps_names (Err NoMemory) words k (inr (c, asks, ends)) = short_names k c ends
+keeps_names (Err BadWords) words k e = vault_same status.BadWords k e.1.0
+keeps_names (Err (ReadFault w)) words k e = record { read = λ not. absurd (cc not); place = λ not. absurd (cc not); store = λ _. ap (λ (v : VaultState). v.store_failed) e.2.1 }
+keeps_names (Err (TooLong w)) words k e = vault_same (status.TooLong w) k e.2.1.0
+keeps_names (Err (NotSpelled w p)) words k e = vault_same (status.Refused w p) k e.2.1.0
+keeps_names (Err SinkFault) words k (c, asks, (w, made, prints, raised, after)) = vault_same status.SinkFault k after
+keeps_names (Err StoreFault) words k (c, asks, (w, made, prints, (name, named, after))) =
+    record { read = λ _. ap (λ (v : VaultState). v.failed) after; place = λ _. ap (λ (v : VaultState). v.failed_place) after; store = λ not. absurd (cc not) }
+
+abbrev stores_in : VaultState → ℕ
+stores_in v = v.stores
+
+short_stores : (k : Call) (c : Command) → Ends (Err NoMemory) c k → (k.vault_after.stores ≡ k.vault.stores) ⊎ Raised k.vault.stores k.vault_after.stores
+short_stores k c (inl same) = inl (ap stores_in same.0)
+short_stores k c (inr (w, made, prints, inl after)) = inl (ap stores_in after)
+short_stores k c (inr (w, made, prints, inr after)) = inr (ap stores_in after)
+
+pub counts_stores : (r : Result (Unit {0}) Refusal) (words : Words) (k : Call) → CallEnds r words k → CountsStores (status_of r) words k
+counts_stores (Ok x) words k (c, asks, (w, made, prints, after)) =
+    let all = entry_counts w.entry k.vault k.vault_after after in
+    (c, asks, subst (λ (o : Option (List ℕ)). k.vault_after.stores ≡ counted_where (is_some o) k.vault.stores) made.named all.5)
+counts_stores (Err NoMemory) words k (inl same) = inl (ap stores_in same.0)
+counts_stores (Err NoMemory) words k (inr (c, asks, ends)) = short_stores k c ends
+counts_stores (Err BadWords) words k e = ap stores_in e.1.0
+counts_stores (Err (ReadFault w)) words k e = ap stores_in e.2.1
+counts_stores (Err (TooLong w)) words k e = ap stores_in e.2.1.0
+counts_stores (Err (NotSpelled w p)) words k e = ap stores_in e.2.1.0
+counts_stores (Err SinkFault) words k (c, asks, (w, made, prints, raised, after)) = ap stores_in after
+counts_stores (Err StoreFault) words k (c, asks, (w, made, prints, (name, named, after))) = ap stores_in after
+
+-- ---- What a command reads
+
+same_content : (before : Files) (is : List Input) → AllKept before before is
+same_content before [] = tt
+same_content before (i ∷ is) = (refl, same_content before is)
+
+equal : (r : Ordering) → is_eq r ≡ true → r ≡ Equal
+equal Less h = absurd (cc h)
+equal Equal h = refl
+equal Greater h = absurd (cc h)
 
 -- a store under another name leaves what a name stands for
 stored_apart : (files : Files) (name other bytes : List ℕ) → other ≢ name → content (fin.insert files other bytes) name ≡ content files name
@@ -272,30 +397,32 @@ stored_apart files name other bytes apart =
     get_apart true e = absurd (apart (sym (slice_cmp-IsAntisymmetric nat_cmp-IsAntisymmetric name other (equal (slice_cmp nat_cmp name other) e))))
     get_apart false e = fin.get-insert nat_list_cmp_total files other bytes name ∙ ap (λ b. cond b (Some bytes) (fin.get files name)) e
 
--- a command stores under no name that it reads
-stored-kept : (files : Files) (c : Command) (words : List (List ℕ)) → Asks c words → (values : Values (inputs c)) → AllKept files (with_stored (stored c values) files) (inputs c)
-stored-kept files (run blob gas) words asks values = (refl, tt)
-stored-kept files (hash file) words asks values = (refl, tt)
-stored-kept files (accumulate state batch posterior slice) words asks values =
-    (stored_apart files state posterior _ asks.other_than_state, (stored_apart files batch posterior _ asks.other_than_batch, tt))
+none_kept : (files : Files) (is : List Input) (name bytes : List ℕ) → NamesNone is name → AllKept files (fin.insert files name bytes) is
+none_kept files [] name bytes none = tt
+none_kept files (i ∷ is) name bytes none = (stored_apart files i.name name bytes none.0, none_kept files is name bytes none.1)
 
-kept_files : (k : Call) (words : List (List ℕ)) (before : Files) → k.vault.files ≡ Some before → KeepsFiles k → (c : Command) → Asks c words → (after : Files) × (k.vault_after.files ≡ Some after) × AllKept before after (inputs c)
-kept_files k words before told kept c asks = (before, kept ∙ told, same_content before before (inputs c) refl)
+-- an entry under the stored name leaves what the command reads
+entry_kept : (files : Files) (c : Command) (words : Words) → Asks c words → (entry : Option (List ℕ × List ℕ)) → name_in entry ≡ stored_name c → AllKept files (with_entry entry files) (inputs c)
+entry_kept files c words asks None named = same_content files (inputs c)
+entry_kept files c words asks (Some e) named =
+    none_kept files (inputs c) e.0 e.1 (subst (λ (o : Option (List ℕ)). IfSome o (NamesNone (inputs c))) (sym named) asks.apart)
 
-by_told : {A : Type 0} (o : Option A) (Q : A → Type 0) → ((x : A) → o ≡ Some x → Q x) → IfSome o Q
-by_told None Q f = tt
-by_told (Some x) Q f = f x refl
+kept_files : (k : Call) (before : Files) → k.vault.files ≡ Some before → KeepsFiles k → (c : Command) → (after : Files) × (k.vault_after.files ≡ Some after) × AllKept before after (inputs c)
+kept_files k before told kept c = (before, kept ∙ told, same_content before (inputs c))
 
--- every ending keeps what the command reads
-pub inputs_kept : (status : Status) (words : List (List ℕ)) (k : Call) → CallEnds status words k → InputsKept status words k
-inputs_kept Done words k e = by_told k.vault.files _ (λ before told c asks.
-    let both = at_told k.vault.files before (λ files. PrintedAll k files e.0 × StoredAll k files e.0) told e.2 in
-    let stored_all = both.1 in
-    (with_stored (stored e.0 stored_all.0) before, stored_all.2, its_own (λ is. AllKept before (with_stored (stored e.0 stored_all.0) before) is) e.0 c words e.1 asks (stored-kept before e.0 words e.1 stored_all.0)))
-inputs_kept NoMemory words k e = by_told k.vault.files _ (λ before told. kept_files k words before told e.1)
-inputs_kept BadWords words k e = by_told k.vault.files _ (λ before told. kept_files k words before told e.2)
-inputs_kept (ReadFault w) words k e = by_told k.vault.files _ (λ before told. kept_files k words before told e.2.3)
-inputs_kept (TooLong w) words k e = by_told k.vault.files _ (λ before told. kept_files k words before told e.2.2)
-inputs_kept (Refused w place) words k e = by_told k.vault.files _ (λ before told. kept_files k words before told e.2.3)
-inputs_kept SinkFault words k e = by_told k.vault.files _ (λ before told. kept_files k words before told e.2.2)
-inputs_kept StoreFault words k e = by_told k.vault.files _ (λ before told. kept_files k words before told e.2.3)
+pub inputs_kept : (r : Result (Unit {0}) Refusal) (words : Words) (k : Call) → CallEnds r words k → InputsKept words k
+inputs_kept (Ok x) words k (c, asks, (w, made, prints, after)) = wherever k.vault.files _ (λ before told d other. (
+  with_entry w.entry before,
+  ap (λ (v : VaultState). v.files) after ∙ stored_files w.entry k.vault before told,
+  its_own (λ e. AllKept before (with_entry w.entry before) (inputs e)) c d words asks other (entry_kept before c words asks w.entry made.named),
+))
+inputs_kept (Err refusal) words k e = wherever k.vault.files _ (λ before told d other. kept_files k before told (others_keep_files (Err refusal) words k e (not_done refusal)) d)
+  where
+    not_done : (refusal : Refusal) → status_of (Err refusal) ≢ status.Done
+    not_done NoMemory is = cc is
+    not_done BadWords is = cc is
+    not_done (ReadFault w) is = cc is
+    not_done (TooLong w) is = cc is
+    not_done (NotSpelled w p) is = cc is
+    not_done SinkFault is = cc is
+    not_done StoreFault is = cc is

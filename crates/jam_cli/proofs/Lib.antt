@@ -1,4 +1,7 @@
-pub mod Endings
-pub mod Lines
-pub mod Runs
+pub mod Verbs
+pub mod Once
 pub mod Starts
+pub mod Inputs
+pub mod Spelled
+pub mod Carried
+pub mod Endings

@@ -1,115 +1,124 @@
--- What the words of a command line ask for: one constructor for each line of the table of words.
-use Rattle.std.specs.Prelude.{◌≡◌, ◌≢◌, ℕ, ◌^◌, ◌<◌, List, [], ◌∷◌, map, codes, decimal, String, string_bytes, Option, Some, None}
-use Rattle.std.specs.declared.alloc.Global.{Global}
-use Rattle.jam_codec.specs.Format.{Spells}
-use Rattle.blob_decode.specs.Program.{Program, program_blob}
-use Rattle.pvm_step.specs.History.{answer, raw}
-use Rattle.jam_cli.specs.Transcript.{block, digest_line, batch_lines}
+-- The work of each command: what it prints and stores, as a function of its arguments and of the values of its files.
+use Rattle.std.specs.Prelude.{◌≡◌, ℕ, ◌+◌, ◌-◌, List, [], ◌∷◌, ◌++◌, length, map, Ok, Option, Some, None}
+use Rattle.std.specs.FinMap as fin
+use Rattle.jam_codec.specs.Format.{Format, Spells, from}
+use Rattle.jam_codec.specs.Laws.{Longest}
+use Rattle.blob_decode.specs.Program as blob
+use Rattle.pvm_step.specs.declared.exit.Exit.{Exit}
+use Rattle.pvm_step.specs.History.{Moment, answer, raw, output_of}
+use Rattle.pvm_invoke.specs.Outcome.{Outcome}
+use Rattle.trace_text.specs.declared.line.Line.{Line}
+use Rattle.trace_text.specs.declared.line.Line.TheVariants as of
+use Rattle.trace_text.specs.Transcript.{text_of, block}
 use Rattle.blake2b_core.specs.Blake2b.{digest}
-use Rattle.jam_accounts.specs.Accounts.{State}
+use Rattle.jam_accounts.specs.Accounts as services
 use Rattle.state_file.specs.StateFile.{state_format}
-use Rattle.batch_file.specs.declared.batch.Batch.{Batch}
+use Rattle.batch_file.specs.declared.batch.Batch as work_batch
 use Rattle.batch_file.specs.BatchFile.{batch_format}
 use Rattle.batch_accumulate.specs.declared.posterior.Posterior.{Posterior}
 use Rattle.batch_accumulate.specs.Batch.{posterior_of}
+use Rattle.jam_outside.specs.Files.{Files, content}
+use Rattle.jam_cli.specs.declared.verb.Kind.{Kind}
+use Rattle.jam_cli.specs.declared.verb.Kind.TheVariants.{Program, Bytes, State, Batch}
+use Rattle.jam_cli.specs.declared.verb.Verb.{Verb}
+use Rattle.jam_cli.specs.declared.verb.Verb.TheVariants.{Run, Hash, Accumulate}
+use Rattle.jam_cli.specs.Table.{row, Input, Arguments, Command, command, inputs}
 
--- run BLOB GAS; hash FILE; accumulate STATE BATCH POSTERIOR SLICE
-pub data Command : Type 0 where
-  run : (blob : List ℕ) (gas : ℕ) → Command
-  hash : (file : List ℕ) → Command
-  accumulate : (state batch posterior : List ℕ) (slice : ℕ) → Command
-
--- the bytes of the words
-abbrev pub texts : List (String Global) → List (List ℕ)
-texts words = map (λ w. string_bytes w) words
-
--- a word that names a file
-abbrev pub IsName : List ℕ → Type 0
-IsName word = word ≢ []
-
--- a word that is a number: below 2 ^ 63, its decimal digits without leading zeros
-abbrev pub IsNumber : ℕ → List ℕ → Type 0
-IsNumber n word = (n < 2 ^ 63) × (word ≡ decimal n)
-
--- the words of accumulate: three names, of which the stored one is neither of the two that are read, and the slice, which is 0 for now
-pub record AsksAccumulate (state batch posterior : List ℕ) (slice : ℕ) (words : List (List ℕ)) : Type 0 where
-  pub number : List ℕ
-  pub words_are : words ≡ codes "accumulate" ∷ (state ∷ (batch ∷ (posterior ∷ (number ∷ []))))
-  pub names_state : IsName state
-  pub names_batch : IsName batch
-  pub names_posterior : IsName posterior
-  pub other_than_state : posterior ≢ state
-  pub other_than_batch : posterior ≢ batch
-  pub is_slice : IsNumber slice number
-  pub is_zero : slice ≡ 0
-
--- the words are those of the command
-abbrev pub Asks : Command → List (List ℕ) → Type 0
-Asks (run blob gas) words = (number : List ℕ) × IsName blob × IsNumber gas number × (words ≡ codes "run" ∷ (blob ∷ (number ∷ [])))
-Asks (hash file) words = IsName file × (words ≡ codes "hash" ∷ (file ∷ []))
-Asks (accumulate state batch posterior slice) words = AsksAccumulate state batch posterior slice words
-
--- no line of the table has these words
-abbrev pub AsksNothing : List (List ℕ) → Type 0
-AsksNothing words = (c : Command) → Asks c words → ⊥
-
--- the kinds of files
-pub data Kind : Type 0 where
-  raw_program : Kind
-  plain_bytes : Kind
-  services_state : Kind
-  batch_of_work : Kind
+-- ---- What files hold
 
 -- the type of the values of a kind
 abbrev pub ValueOf : Kind → Type 0
-ValueOf raw_program = Program
-ValueOf plain_bytes = List ℕ
-ValueOf services_state = State
-ValueOf batch_of_work = Batch
+ValueOf Program = blob.Program
+ValueOf Bytes = List ℕ
+ValueOf State = services.State
+ValueOf Batch = work_batch.Batch
 
--- bytes spell a value of a kind
-abbrev pub SpellsValue : (kind : Kind) → ValueOf kind → List ℕ → Type 0
-SpellsValue raw_program p bytes = Spells program_blob p bytes
-SpellsValue plain_bytes value bytes = value ≡ bytes
-SpellsValue services_state state bytes = Spells state_format state bytes
-SpellsValue batch_of_work batch bytes = Spells batch_format batch bytes
+-- bytes as they are: all of them are one field, which always spells
+abbrev pub all_bytes : Format (List ℕ)
+all_bytes = record { Fits = λ x. Unit {0}; spell = λ x. x; Run = λ run. Unit {0}; read = λ r. Ok (r.rest, from (r.place + length r.rest) []) }
 
--- a file that is read: which word names it, from 0 on, its name and its kind
-pub record Input : Type 0 where
-  pub word : ℕ
-  pub name : List ℕ
-  pub kind : Kind
+abbrev pub format_of : (kind : Kind) → Format (ValueOf kind)
+format_of Program = blob.program_blob
+format_of Bytes = all_bytes
+format_of State = state_format
+format_of Batch = batch_format
 
--- the files that a command reads, in the order of their words
-abbrev pub inputs : Command → List Input
-inputs (run blob gas) = record { word = 1; name = blob; kind = raw_program } ∷ []
-inputs (hash file) = record { word = 1; name = file; kind = plain_bytes } ∷ []
-inputs (accumulate state batch posterior slice) = record { word = 1; name = state; kind = services_state } ∷ (record { word = 2; name = batch; kind = batch_of_work } ∷ [])
+-- the bytes spell a value of the kind
+abbrev pub IsSpelled : Kind → List ℕ → Type 0
+IsSpelled kind bytes = (value : ValueOf kind) × Spells (format_of kind) value bytes
 
--- a value for each of these files
-abbrev pub Values : List Input → Type 0
+-- they spell none, and the longest run of whole fields ends at the place
+abbrev pub IsRefusedAt : Kind → List ℕ → ℕ → Type 0
+IsRefusedAt kind bytes place = Longest (format_of kind).Run (from 0 bytes) place × (IsSpelled kind bytes → ⊥)
+
+-- a file of a command, and what it holds
+pub record File : Type 0 where
+  pub input : Input
+  pub bytes : List ℕ
+
+-- the files of inputs; a name that is not there stands for no bytes
+abbrev pub held : Files → List Input → List File
+held files is = map (λ (i : Input). record { input = i; bytes = content files i.name }) is
+
+abbrev pub kinds : List Input → List Kind
+kinds is = map (λ (i : Input). i.kind) is
+
+-- a value for each kind
+abbrev pub Values : List Kind → Type 0
 Values [] = Unit {0}
-Values (i ∷ is) = ValueOf i.kind × Values is
+Values (kind ∷ ks) = ValueOf kind × Values ks
 
--- the bytes that spell the state of a posterior
-abbrev pub posterior_bytes : Posterior → List ℕ
-posterior_bytes posterior = state_format.spell posterior.state
+-- each file spells the value of its kind
+abbrev pub SpellAll : (ks : List Kind) → Values ks → List File → Type 0
+SpellAll [] values [] = Unit {0}
+SpellAll [] values (f ∷ fs) = ⊥
+SpellAll (kind ∷ ks) values [] = ⊥
+SpellAll (kind ∷ ks) values (f ∷ fs) = Spells (format_of kind) values.0 f.bytes × SpellAll ks values.1 fs
 
--- what is printed
-abbrev pub printed : (c : Command) → Values (inputs c) → List ℕ
-printed (run blob gas) values = block (answer values.0 gas (raw 0))
-printed (hash file) values = digest_line (digest values.0)
-printed (accumulate state batch posterior slice) values =
-    let made : Posterior = posterior_of values.0 values.1.0 in batch_lines made (digest (posterior_bytes made))
+-- ---- What is made of them
 
--- the name that is stored under, if anything is
-abbrev pub stored_name : Command → Option (List ℕ)
-stored_name (run blob gas) = None
-stored_name (hash file) = None
-stored_name (accumulate state batch posterior slice) = Some posterior
+-- what is printed; and the name and the bytes that are stored, if anything is
+pub record Work : Type 0 where
+  pub printed : List ℕ
+  pub entry : Option (List ℕ × List ℕ)
 
--- that name, and the bytes that are stored there
-abbrev pub stored : (c : Command) → Values (inputs c) → Option (List ℕ × List ℕ)
-stored (run blob gas) values = None
-stored (hash file) values = None
-stored (accumulate state batch posterior slice) values = Some (posterior, posterior_bytes (posterior_of values.0 values.1.0))
+abbrev pub prints : List Line → Work
+prints lines = record { printed = text_of lines; entry = None }
+
+-- the outcome of a run with so much gas, by its last state
+abbrev pub outcome_by : ℕ → Moment → Exit → Outcome
+outcome_by gas m exit = record { exit = exit; used = gas - m.gas; left = m.gas; pc = m.state.pc; registers = m.state.registers; output = output_of m }
+
+-- the block of that state, which has an exit
+abbrev pub run_lines : ℕ → Moment → Option Exit → List Line
+run_lines gas m None = []
+run_lines gas m (Some exit) = block (outcome_by gas m exit)
+
+-- run: the raw machine's run from place 0
+abbrev pub run_work : blob.Program → ℕ → Work
+run_work program gas = let m : Moment = answer program gas (raw 0) in prints (run_lines gas m m.exit)
+
+-- hash: the digest of the file
+abbrev pub hash_work : List ℕ → Work
+hash_work bytes = prints (of.Digest (digest bytes) ∷ [])
+
+-- the lines of a batch that makes no group; its own lines, and the digest of the posterior's bytes
+abbrev pub batch_lines : Posterior → List ℕ → List Line
+batch_lines p bytes =
+    of.Slot p.state.slot ∷ (of.LeftOut p.left_out ∷ (of.Preimages p.preimages ∷ (of.Accounts (fin.len p.state.accounts) ∷ (of.State (digest bytes) ∷ []))))
+
+-- accumulate: the posterior of the batch, which is stored
+abbrev pub accumulate_work : services.State → work_batch.Batch → List ℕ → Work
+accumulate_work prior batch name =
+    let made : Posterior = posterior_of prior batch in
+    let bytes : List ℕ = state_format.spell made.state in
+    record { printed = text_of (batch_lines made bytes); entry = Some (name, bytes) }
+
+-- the work of a verb
+abbrev pub work_of : (verb : Verb) (arguments : Arguments (row verb).parts) → Values (kinds (inputs (command verb arguments))) → Work
+work_of Run arguments values = run_work values.0 arguments.1.0
+work_of Hash arguments values = hash_work values.0
+work_of Accumulate arguments values = accumulate_work values.0 values.1.0 arguments.1.1.0
+
+abbrev pub work : (c : Command) → Values (kinds (inputs c)) → Work
+work c values = work_of c.verb c.arguments values

@@ -1,4 +1,5 @@
-pub mod Transcript
+pub mod Table
 pub mod Command
 pub mod Ending
+pub mod Laws
 pub mod Parts

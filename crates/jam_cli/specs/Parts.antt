@@ -1,78 +1,174 @@
--- What the parts of a call say.
-use Rattle.std.specs.Prelude.{◌≡◌, ℕ, ◌<◌, ◌≤◌, ◌^◌, List, Option, Some, option_map, IfSome, Result, Ok, Err}
-use Rattle.jam_outside.specs.Causes.{VaultState, SinkState, Rose, AppendsPrefix}
+-- What the parts of a call say. Proofs alone need this.
+use Rattle.std.specs.Prelude.{◌≡◌, ◌≢◌, ◌⊎◌, ℕ, ◌<◌, ◌≤◌, List, [], ◌∷◌, map, Option, Some, None, option_map, IfSome, Result, Ok, Err}
+use Rattle.jam_outside.specs.Files.{Files}
+use Rattle.jam_outside.specs.Causes.{VaultState, SinkState, Raised, Appends, AppendsPrefix, read_failed, store_made, store_done, store_failed}
 use Rattle.jam_outside.specs.declared.whole.ReadRefusal.{ReadRefusal}
 use Rattle.jam_outside.specs.declared.whole.ReadRefusal.TheVariants as read
+use Rattle.jam_codec.specs.declared.refusal.FileRefusal.{FileRefusal}
+use Rattle.jam_codec.specs.declared.refusal.FileRefusal.TheVariants as codec
 use Rattle.jam_cli.specs.declared.status.Status.{Status}
-use Rattle.jam_cli.specs.declared.status.Status.TheVariants.{Done, NoMemory, ReadFault, TooLong, Refused, SinkFault, StoreFault}
+use Rattle.jam_cli.specs.declared.status.Status.TheVariants as status
+use Rattle.jam_cli.specs.declared.refusal.Refusal.{Refusal}
+use Rattle.jam_cli.specs.declared.refusal.Refusal.TheVariants.{NoMemory, BadWords, ReadFault, TooLong, NotSpelled, SinkFault, StoreFault}
+use Rattle.jam_cli.specs.declared.verb.Kind.{Kind}
+use Rattle.jam_cli.specs.declared.verb.Verb.{Verb}
+use Rattle.jam_cli.specs.declared.verb.Verb.TheVariants.{Run, Hash, Accumulate}
 use Rattle.jam_cli.specs.declared.words.Command as parsed
-use Rattle.jam_cli.specs.declared.words.Command.TheVariants as line
-use Rattle.jam_cli.specs.declared.product.Stored as made
-use Rattle.jam_cli.specs.Command.{Command, run, hash, accumulate, Kind, ValueOf, SpellsValue, Input, inputs, Values, printed, stored_name, stored}
-use Rattle.jam_cli.specs.Ending.{FirstNamed, FirstTooLong, Gives, Ends, call}
+use Rattle.jam_cli.specs.declared.words.Command.TheVariants as of
+use Rattle.jam_cli.specs.declared.words.Line as parsed_line
+use Rattle.jam_cli.specs.declared.words.Misfit.{Misfit}
+use Rattle.jam_cli.specs.declared.words.Misfit.TheVariants as misfit
+use Rattle.jam_cli.specs.declared.reads.Input as code_input
+use Rattle.jam_cli.specs.declared.reads.File as code_file
+use Rattle.jam_cli.specs.declared.work.Work as code_work
+use Rattle.jam_cli.specs.declared.work.Entry as code_entry
+use Rattle.jam_cli.specs.Table.{row, Arguments, Command, command, Asks, AsksNothing, Input, inputs, stored_name, NamesNone}
+use Rattle.jam_cli.specs.Command.{File, held, kinds, Values, SpellAll, IsRefusedAt, Work, work}
+use Rattle.jam_cli.specs.Ending.{Call, limit, AllRead, FirstTooLong, FirstRefused, FirstNamed, IsInputWord, Gives, IsReadFault, IsTooLong, IsRefused}
 
--- the command of the code
+-- ---- The words
+
+-- what a command of the code stands for
 abbrev pub asked : parsed.Command → Command
-asked (line.Run blob gas) = run blob.now gas
-asked (line.Hash file) = hash file.now
-asked (line.Accumulate state batch posterior) = accumulate state.now batch.now posterior.now 0
+asked (of.Run blob gas) = command Run (blob.now, (gas.value, tt))
+asked (of.Hash file) = command Hash (file.now, tt)
+asked (of.Accumulate state batch posterior slice) = command Accumulate (state.now, (batch.now, (posterior.now, (slice, tt))))
 
--- the gas of a run is below 2 ^ 63
-abbrev pub HasSmallGas : parsed.Command → Type 0
-HasSmallGas (line.Run blob gas) = gas < 2 ^ 63
-HasSmallGas command = Unit {0}
+-- the inputs that the code holds
+abbrev pub plain : code_input.Input → Input
+plain i = record { word = i.word; name = i.name.now; kind = i.kind }
 
-abbrev pub status_of : {X : Type 0} → Result X Status → Status
-status_of (Ok x) = Done
-status_of (Err status) = status
+abbrev pub plains : List code_input.Input → List Input
+plains is = map plain is
 
--- the name and the bytes that are to be stored
-abbrev pub entry_of : Option made.Stored → Option (List ℕ × List ℕ)
-entry_of = option_map (λ entry. (entry.name.now, entry.bytes.items))
+-- the files that a command of the code reads, and the name that it stores under, are the table's
+abbrev pub IsLine : parsed_line.Line → Type 0
+IsLine l = (plains l.inputs.items ≡ inputs (asked l.command)) × (option_map (λ name. name.now) l.stored ≡ stored_name (asked l.command))
 
--- how a read that was refused ends the call
-abbrev pub read_status : ℕ → ReadRefusal → Status
-read_status word read.ReadFault = ReadFault word
-read_status word read.TooLong = TooLong word
-read_status word read.NoMemory = NoMemory
+-- what the words after a verb are parsed as
+abbrev pub Parses : Verb → List (List ℕ) → Result parsed_line.Line Misfit → Type 0
+Parses verb words (Ok l) = Asks (asked l.command) ((row verb).name ∷ words) × IsLine l
+Parses verb words (Err misfit.OtherWords) = (arguments : Arguments (row verb).parts) → Asks (command verb arguments) ((row verb).name ∷ words) → ⊥
+Parses verb words (Err misfit.NoMemory) = Unit {0}
+
+-- ---- The files
+
+-- the files that the code holds
+abbrev pub plain_file : code_file.File → File
+plain_file f = record { input = plain f.input; bytes = f.bytes.items }
+
+abbrev pub plain_files : List code_file.File → List File
+plain_files fs = map plain_file fs
+
+abbrev pub inputs_in : List code_file.File → List Input
+inputs_in fs = map (λ (f : code_file.File). plain f.input) fs
 
 -- some of the files were not read
-abbrev pub NotRead : Status → List Input → VaultState → VaultState → Type 0
-NotRead NoMemory is v w = Unit {0}
-NotRead (ReadFault word) is v w = Rose v.read_faults w.read_faults × FirstNamed w.failed is word
-NotRead (TooLong word) is v w = IfSome v.files (λ files. FirstTooLong files is word)
-NotRead status is v w = ⊥
+abbrev pub NotRead : Refusal → List Input → VaultState → VaultState → Type 0
+NotRead NoMemory is v w = w ≡ v
+NotRead (ReadFault word) is v w = (w ≡ read_failed v w.failed w.failed_place) × FirstNamed w.failed is word × (w.failed_place ≤ limit)
+NotRead (TooLong word) is v w = (w ≡ v) × IsInputWord is word × IfSome v.files (λ files. FirstTooLong (held files is) word)
+NotRead refusal is v w = ⊥
 
--- the bytes of a word spell no value of a kind
-abbrev pub NotSpelled : Status → ℕ → Kind → List ℕ → Type 0
-NotSpelled NoMemory word kind bytes = Unit {0}
-NotSpelled (Refused w place) word kind bytes = (w ≡ word) × (place ≡ 0) × ((value : ValueOf kind) → SpellsValue kind value bytes → ⊥)
-NotSpelled status word kind bytes = ⊥
+-- how a read that was refused ends the reading
+abbrev pub EndOf : ReadRefusal → Refusal → List Input → Input → Type 0
+EndOf read.ReadFault refusal is i = (word : ℕ) × (refusal ≡ ReadFault word) × (FirstNamed i.name is word ⊎ NamesNone is i.name)
+EndOf read.TooLong refusal is i = refusal ≡ TooLong i.word
+EndOf read.NoMemory refusal is i = refusal ≡ NoMemory
 
--- the call ends before anything is printed
-abbrev pub EndsEarly : Status → Command → VaultState → VaultState → Type 0
-EndsEarly status c v w = (s : SinkState) → Ends status c (call v w s s)
+-- bytes spell no value of a kind
+abbrev pub IsNone : Kind → List ℕ → FileRefusal → Type 0
+IsNone kind bytes (codec.Malformed place) = IsRefusedAt kind bytes place
+IsNone kind bytes codec.NoMemory = Unit {0}
 
--- after reads: the files stay, and no count of faults fell
-pub record AfterInputs (v w : VaultState) : Type 0 where
-  pub files : w.files ≡ v.files
-  pub later : v.read_faults ≤ w.read_faults
-  pub store_later : v.store_faults ≤ w.store_faults
+-- how a word's file is refused then
+abbrev pub refused_as : ℕ → FileRefusal → Refusal
+refused_as word (codec.Malformed place) = NotSpelled word place
+refused_as word codec.NoMemory = NoMemory
 
--- what a command gives of its files: a text, and what is to be stored
-pub record Makes (v w : VaultState) (c : Command) (text : List ℕ) (entry : Option (List ℕ × List ℕ)) : Type 0 where
-  pub after : AfterInputs v w
-  pub name : option_map (λ (e : List ℕ × List ℕ). e.0) entry ≡ stored_name c
-  pub gives : IfSome v.files (λ files. (values : Values (inputs c)) × Gives files c values × (text ≡ printed c values) × (entry ≡ stored c values))
+-- some of the files spell no value
+abbrev pub NotAllSpelled : Refusal → List File → Type 0
+NotAllSpelled NoMemory fs = Unit {0}
+NotAllSpelled (NotSpelled word place) fs = FirstRefused fs word place
+NotAllSpelled refusal fs = ⊥
+
+-- ---- The work
+
+abbrev pub entry_of : Option code_entry.Entry → Option (List ℕ × List ℕ)
+entry_of = option_map (λ (e : code_entry.Entry). (e.name.now, e.bytes.items))
+
+abbrev pub plain_work : code_work.Work → Work
+plain_work w = record { printed = w.text.items; entry = entry_of w.entry }
+
+-- it is the command's work on what these files spell
+abbrev pub IsWork : Command → List File → Work → Type 0
+IsWork c fs w = (values : Values (kinds (inputs c))) × SpellAll (kinds (inputs c)) values fs × (w ≡ work c values)
+
+-- ---- What is handed out
 
 -- the text was not printed
-abbrev pub NotPrinted : Status → SinkState → SinkState → List ℕ → Type 0
-NotPrinted NoMemory s t text = AppendsPrefix s.taken t.taken text
-NotPrinted SinkFault s t text = Rose s.faults t.faults × AppendsPrefix s.taken t.taken text
-NotPrinted status s t text = ⊥
+abbrev pub NotPrinted : Refusal → SinkState → SinkState → List ℕ → Type 0
+NotPrinted NoMemory s t text = AppendsPrefix s.taken t.taken text × (t.faults ≡ s.faults)
+NotPrinted SinkFault s t text = AppendsPrefix s.taken t.taken text × Raised s.faults t.faults
+NotPrinted refusal s t text = ⊥
+
+-- a vault with an entry stored in it, if there is one
+abbrev pub entry_stored : Option (List ℕ × List ℕ) → VaultState → VaultState
+entry_stored None v = v
+entry_stored (Some e) v = store_done v e.0 e.1
+
+abbrev pub name_in : Option (List ℕ × List ℕ) → Option (List ℕ)
+name_in = option_map (λ (e : List ℕ × List ℕ). e.0)
 
 -- the entry was not stored
-abbrev pub NotStored : Status → VaultState → VaultState → Option (List ℕ × List ℕ) → Type 0
-NotStored NoMemory v w entry = w.files ≡ v.files
-NotStored StoreFault v w entry = Rose v.store_faults w.store_faults × (option_map (λ (e : List ℕ × List ℕ). e.0) entry ≡ Some w.store_failed) × (w.files ≡ v.files)
-NotStored status v w entry = ⊥
+abbrev pub NotStored : Refusal → VaultState → VaultState → Option (List ℕ × List ℕ) → Type 0
+NotStored NoMemory v w entry = w ≡ store_made v
+NotStored StoreFault v w entry = (name : List ℕ) × (name_in entry ≡ Some name) × (w ≡ store_failed v name)
+NotStored refusal v w entry = ⊥
+
+-- ---- The call
+
+-- what a command gives of the files of a vault
+pub record Makes (c : Command) (v : VaultState) (w : Work) : Type 0 where
+  pub named : name_in w.entry ≡ stored_name c
+  pub gives : IfSome v.files (λ files. (values : Values (kinds (inputs c))) × Gives files c values × (w ≡ work c values))
+
+-- the outside is as it was
+abbrev pub Untouched : Call → Type 0
+Untouched k = (k.vault_after ≡ k.vault) × (k.sink_after ≡ k.sink)
+
+-- all was printed, and the sink did not fail
+abbrev pub PrintsAll : Call → Work → Type 0
+PrintsAll k w = Appends k.sink.taken k.sink_after.taken w.printed × (k.sink_after.faults ≡ k.sink.faults)
+
+-- a prefix was
+abbrev pub PrintsPrefix : Call → Work → Type 0
+PrintsPrefix k w = AppendsPrefix k.sink.taken k.sink_after.taken w.printed × (k.sink_after.faults ≡ k.sink.faults)
+
+-- how a call of a command ends
+abbrev pub Ends : Result (Unit {0}) Refusal → Command → Call → Type 0
+Ends (Ok x) c k = (w : Work) × Makes c k.vault w × PrintsAll k w × (k.vault_after ≡ entry_stored w.entry k.vault)
+Ends (Err NoMemory) c k = Untouched k ⊎ ((w : Work) × Makes c k.vault w × PrintsPrefix k w × ((k.vault_after ≡ k.vault) ⊎ (k.vault_after ≡ store_made k.vault)))
+Ends (Err BadWords) c k = ⊥
+Ends (Err (ReadFault word)) c k = IsReadFault c k word × (k.vault_after ≡ read_failed k.vault k.vault_after.failed k.vault_after.failed_place) × (k.sink_after ≡ k.sink)
+Ends (Err (TooLong word)) c k = IsTooLong c k word × Untouched k
+Ends (Err (NotSpelled word place)) c k = IsRefused c k word place × Untouched k
+Ends (Err SinkFault) c k = (w : Work) × Makes c k.vault w × AppendsPrefix k.sink.taken k.sink_after.taken w.printed × Raised k.sink.faults k.sink_after.faults × (k.vault_after ≡ k.vault)
+Ends (Err StoreFault) c k = (w : Work) × Makes c k.vault w × PrintsAll k w × ((name : List ℕ) × (name_in w.entry ≡ Some name) × (k.vault_after ≡ store_failed k.vault name))
+
+-- how a call with these words ends
+abbrev pub CallEnds : Result (Unit {0}) Refusal → List (List ℕ) → Call → Type 0
+CallEnds (Err BadWords) words k = AsksNothing words × Untouched k
+CallEnds (Err NoMemory) words k = Untouched k ⊎ ((c : Command) × Asks c words × Ends (Err NoMemory) c k)
+CallEnds result words k = (c : Command) × Asks c words × Ends result c k
+
+-- its status
+abbrev pub status_of : Result (Unit {0}) Refusal → Status
+status_of (Ok x) = status.Done
+status_of (Err NoMemory) = status.NoMemory
+status_of (Err BadWords) = status.BadWords
+status_of (Err (ReadFault word)) = status.ReadFault word
+status_of (Err (TooLong word)) = status.TooLong word
+status_of (Err (NotSpelled word place)) = status.Refused word place
+status_of (Err SinkFault) = status.SinkFault
+status_of (Err StoreFault) = status.StoreFault

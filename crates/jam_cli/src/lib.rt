@@ -1,13 +1,21 @@
 //! The top call: what the words of a command line ask for, done over a vault of files and a sink.
 #![tactic(auto)]
 
-mod commands;
-mod input;
-mod product;
+mod accumulate;
+mod deliver;
+mod hash;
+mod laws;
+mod number;
+mod reads;
+mod refusal;
+mod run;
 mod status;
 mod top;
-mod transcript;
+mod values;
+mod verb;
 mod words;
+mod work;
 
+pub use laws::command_laws;
 pub use status::Status;
 pub use top::jam;

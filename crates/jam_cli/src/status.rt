@@ -13,7 +13,9 @@ pub enum Status {
     ReadFault(u8),
     /// The file of this word holds more than 67,108,864 bytes.
     TooLong(u8),
-    /// The bytes of this word's file spell no value of its kind. The place is 0 for now.
+    /// The bytes of this word's file spell no value of its kind. The place is the number of bytes
+    /// before the first field that does not spell; for bytes after the value it is the value's
+    /// length.
     Refused { word: u8, place: u64 },
     /// The sink failed; a prefix was printed.
     SinkFault,

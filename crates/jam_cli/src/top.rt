@@ -1,49 +1,34 @@
 // The top call.
 ghost use Rattle.std.specs.Prelude.{◌≡◌};
-ghost use Rattle.jam_cli.specs.Command.{texts};
-ghost use Rattle.jam_cli.specs.Ending.{Ends, CallEnds, call, DoneMeans, BadWordsMeans, BadWordsComes, ReadFaultMeans, TooLongMeans, TooLongComes, RefusedMeans, RefusedComes, SinkFaultMeans, StoreFaultMeans, NoMemoryMeans, SilentMeans, OthersKeepFiles, InputsKept, ServedIsDone};
-ghost use Rattle.jam_cli.specs.Parts.{asked, HasSmallGas, status_of};
-ghost use Rattle.jam_cli.specs.declared.status.Status.TheVariants.{NoMemory};
+ghost use Rattle.jam_cli.specs.Table.{texts};
+ghost use Rattle.jam_cli.specs.Ending.{call, DoneMeans, BadWordsMeans, BadWordsComes, ReadFaultMeans, TooLongMeans, TooLongComes, RefusedMeans, RefusedComes, SinkFaultMeans, StoreFaultMeans, NoMemoryMeans, SilentMeans, OthersKeepFiles, InputsKept, CountsFaults, KeepsNames, CountsStores, ServedIsDone};
+ghost use Rattle.jam_cli.specs.Parts.{asked, IsLine, Ends, CallEnds};
 
-use crate::commands::product_of;
-use crate::product::{print, store};
+use crate::deliver::{print, store};
+use crate::reads::read_inputs;
+use crate::refusal::{Refusal, status_of};
 use crate::status::Status;
-use crate::words::{Command, command_of};
+use crate::words::{Line, command_of};
+use crate::work::work_of;
 use jam_outside::{Sink, Vault};
-use std::alloc::{AllocError, Global};
-
-impl From<AllocError> for Status {
-    ghost from_gives = { λ _ e. e ≡ NoMemory };
-
-    fn from(_: AllocError) -> Self {
-        Status::NoMemory
-    }
-}
+use std::alloc::Global;
 
 // Reads a command's files, works, prints, and last of all stores.
 #[tactic(auto, using(std::proofs::lemmas::Result::err_from_is_err_and))]
 fn carry_out<V: Vault, S: Sink>(
     alloc: Global,
-    command: Command<'_>,
+    line: &Line<'_>,
     vault: &mut V,
     out: &mut S,
-) -> Result<(), Status>
-    requires { HasSmallGas command }
-    ensures { Ends (status_of result) (asked command.entry) (call (V.state vault.old) (V.state vault.new) (S.state out.old) (S.state out.new)) }
+) -> Result<(), Refusal>
+    requires { IsLine line.now }
+    ensures { Ends result (asked line.now.command) (call (V.state vault.old) (V.state vault.new) (S.state out.old) (S.state out.new)) }
 {
-    let product = product_of(alloc, command, vault)?;
-    print(out, product.text.as_str())?;
-    store(vault, &product.stored)?;
+    let files = read_inputs(alloc, vault, &line.inputs)?;
+    let work = work_of(alloc, line.command, &files)?;
+    print(out, &work.text)?;
+    store(vault, &work.entry)?;
     Ok(())
-}
-
-fn ended(outcome: Result<(), Status>) -> Status
-    ensures { result ≡ status_of outcome }
-{
-    match outcome {
-        Ok(()) => Status::Done,
-        Err(status) => status,
-    }
 }
 
 // Does what the words ask for.
@@ -52,22 +37,23 @@ fn serve<V: Vault, S: Sink>(
     words: &Vec<String>,
     vault: &mut V,
     out: &mut S,
-) -> Status
+) -> Result<(), Refusal>
     ensures { CallEnds result (texts words.now.items) (call (V.state vault.old) (V.state vault.new) (S.state out.old) (S.state out.new)) }
 {
     match command_of(alloc, words) {
-        Err(_) => Status::NoMemory,
-        Ok(None) => Status::BadWords,
-        Ok(Some(command)) => ended(carry_out(alloc, command, vault, out)),
+        Err(_) => Err(Refusal::NoMemory),
+        Ok(None) => Err(Refusal::BadWords),
+        Ok(Some(line)) => carry_out(alloc, &line, vault, out),
     }
 }
 
 /// Does what the words of a command line ask for, over a vault of files and a sink for what is printed.
 ///
-/// A call that ends [`Status::Done`] printed exactly what the command's definition gives of the values
-/// that the files spell, and stored exactly what it gives; every other ending names its cause and stores
+/// A call that ends [`Status::Done`] printed exactly what the command's work gives of the values that
+/// the files spell, and stored exactly what it gives; every other ending names its cause and stores
 /// nothing. What the vault's files hold is spoken of where the vault tells it, and what was printed
-/// where the sink does. Want of memory may come anywhere.
+/// where the sink does. Each count of failures is raised by one at the status that names it, and at no
+/// other. Want of memory may come anywhere.
 pub fn jam<V: Vault, S: Sink>(
     alloc: Global,
     words: &Vec<String>,
@@ -89,8 +75,11 @@ pub fn jam<V: Vault, S: Sink>(
 
     ensures silent { SilentMeans result (call (V.state vault.old) (V.state vault.new) (S.state out.old) (S.state out.new)) }
     ensures files { OthersKeepFiles result (call (V.state vault.old) (V.state vault.new) (S.state out.old) (S.state out.new)) }
-    ensures inputs_kept { InputsKept result (texts words.now.items) (call (V.state vault.old) (V.state vault.new) (S.state out.old) (S.state out.new)) }
+    ensures inputs_kept { InputsKept (texts words.now.items) (call (V.state vault.old) (V.state vault.new) (S.state out.old) (S.state out.new)) }
+    ensures faults { CountsFaults result (call (V.state vault.old) (V.state vault.new) (S.state out.old) (S.state out.new)) }
+    ensures names { KeepsNames result (call (V.state vault.old) (V.state vault.new) (S.state out.old) (S.state out.new)) }
+    ensures stores { CountsStores result (texts words.now.items) (call (V.state vault.old) (V.state vault.new) (S.state out.old) (S.state out.new)) }
     ensures complete { ServedIsDone result (texts words.now.items) (call (V.state vault.old) (V.state vault.new) (S.state out.old) (S.state out.new)) }
 {
-    serve(alloc, words, vault, out)
+    status_of(serve(alloc, words, vault, out))
 }

@@ -1,17 +1,22 @@
 // The words of a command line.
-ghost use Rattle.std.specs.Prelude.{◌≡◌, ◌≢◌, ◌<◌, ◌^◌, ℕ, IfOk, IfSome, MatchOption, IsTrue, ◌↔◌};
-ghost use Rattle.jam_cli.specs.Command.{Asks, AsksNothing, IsName, IsNumber, texts, run, hash, accumulate};
-ghost use Rattle.jam_cli.specs.Parts.{asked, HasSmallGas};
+ghost use Rattle.std.specs.Prelude.{◌≡◌, ◌≢◌, ◌<◌, ◌^◌, [], ◌∷◌, ℕ, IfOk, Err, MatchOption, MatchResult, IsTrue, ◌↔◌, decimal, string_bytes};
+ghost use Rattle.jam_cli.specs.declared.verb.Verb.TheVariants.{Run, Hash, Accumulate};
+ghost use Rattle.jam_cli.specs.declared.words.Misfit.TheVariants.{OtherWords, NoMemory};
+ghost use Rattle.jam_cli.specs.Table.{Asks, AsksNothing, texts};
+ghost use Rattle.jam_cli.specs.Parts.{asked, IsLine, Parses};
 
-use std::alloc::{AllocError, Global};
+use crate::number::Small;
+use crate::reads::Input;
+use crate::verb::{Kind, Verb, verb_of};
+use std::alloc::{AllocError, AllocFailed, Global};
 
-/// What a command line asks for: a line of the table of words.
+/// A row of the table of words, with its arguments. The files that it reads are not among them.
 #[derive(Clone, Copy)]
 pub enum Command<'a> {
     /// `run BLOB GAS`: runs a program blob with so much gas.
     Run {
         blob: &'a str,
-        gas: u64,
+        gas: Small,
     },
     /// `hash FILE`: the digest of the bytes of a file.
     Hash {
@@ -22,114 +27,183 @@ pub enum Command<'a> {
         state: &'a str,
         batch: &'a str,
         posterior: &'a str,
+        slice: u64,
     },
 }
 
-/// Whether two words are the same.
-pub fn is_text(word: &str, text: &str) -> bool
+/// A command, the files that it reads in the order of their words, and the name that it stores under.
+#[derive(Drop)]
+pub struct Line<'a> {
+    pub command: Command<'a>,
+    pub inputs: Vec<Input<'a>>,
+    pub stored: Option<&'a str>,
+}
+
+// Why words are not those of a verb.
+#[derive(Clone, Copy)]
+enum Misfit {
+    OtherWords,
+    NoMemory,
+}
+
+impl From<AllocError> for Misfit {
+    ghost from_gives = { λ _ e. e ≡ NoMemory };
+
+    fn from(_: AllocError) -> Self {
+        Misfit::NoMemory
+    }
+}
+
+impl<T: Drop> From<AllocFailed<T>> for Misfit {
+    ghost from_gives = { λ _ e. e ≡ NoMemory };
+
+    fn from(_: AllocFailed<T>) -> Self {
+        Misfit::NoMemory
+    }
+}
+
+fn is_text(word: &str, text: &str) -> bool
     ensures { IsTrue result ↔ (word.now ≡ text.now) }
 {
     word == text
 }
 
-// The number below 2 ^ 63 whose decimal digits without leading zeros are the word.
-fn number_of(alloc: Global, word: &str) -> Result<Option<u64>, AllocError>
-    ensures { IfOk result (λ found. MatchOption found ((n : ℕ) → IsNumber n word.now → ⊥) (λ n. IsNumber n word.now)) }
+// A word that is a name.
+fn name(word: &String) -> Result<&str, Misfit>
+    ensures { MatchResult result
+        (λ name. (name.now ≡ string_bytes word.now) × (string_bytes word.now ≢ []))
+        (λ e. (e ≡ OtherWords) × (string_bytes word.now ≡ [])) }
 {
-    let Ok(number) = word.parse::<u64>() else {
-        return Ok(None);
+    if word.is_empty() {
+        return Err(Misfit::OtherWords);
+    }
+    Ok(word.as_str())
+}
+
+// The number below a bound whose decimal digits without leading zeros are the word.
+fn number(alloc: Global, word: &String, bound: u64) -> Result<u64, Misfit>
+    ensures fits { IfOk result (λ n. (n < bound) × (string_bytes word.now ≡ decimal n)) }
+    ensures other { result ≡ Err OtherWords → (n : ℕ) → n < bound → string_bytes word.now ≢ decimal n }
+{
+    let Ok(number) = word.as_str().parse::<u64>() else {
+        return Err(Misfit::OtherWords);
     };
-    if number >= 1 << 63 {
-        return Ok(None);
+    if number >= bound {
+        return Err(Misfit::OtherWords);
     }
     let digits = number.to_string(alloc)?;
-    if is_text(digits.as_str(), word) {
-        Ok(Some(number))
+    if is_text(digits.as_str(), word.as_str()) {
+        Ok(number)
     } else {
-        Ok(None)
+        Err(Misfit::OtherWords)
     }
 }
 
-fn run_of<'a>(alloc: Global, blob: &'a str, gas: &str) -> Result<Option<Command<'a>>, AllocError>
-    ensures small { IfOk result (λ found. IfSome found HasSmallGas) }
-    ensures asked { IfOk result (λ found. MatchOption found
-        ((n : ℕ) → IsName blob.now → IsNumber n gas.now → ⊥)
-        (λ command. (n : ℕ) × (asked command ≡ run blob.now n) × IsName blob.now × IsNumber n gas.now)) }
+// The same for the bound 2^63.
+fn small(alloc: Global, word: &String) -> Result<Small, Misfit>
+    ensures fits { IfOk result (λ n. string_bytes word.now ≡ decimal n.value) }
+    ensures other { result ≡ Err OtherWords → (n : ℕ) → n < 2 ^ 63 → string_bytes word.now ≢ decimal n }
 {
-    if blob.is_empty() {
-        return Ok(None);
-    }
-    match number_of(alloc, gas)? {
-        None => Ok(None),
-        Some(gas) => Ok(Some(Command::Run { blob, gas })),
-    }
+    let value = number(alloc, word, 1 << 63)?;
+    Ok(Small { value })
 }
 
-fn hash_of(file: &str) -> Option<Command<'_>>
-    ensures { MatchOption result (IsName file.now → ⊥) (λ command. (asked command ≡ hash file.now) × IsName file.now) }
+// Fails where the name is that of a file that is read.
+fn apart(stored: &str, read: &str) -> Result<(), Misfit>
+    ensures { MatchResult result (λ _. stored.now ≢ read.now) (λ e. (e ≡ OtherWords) × (stored.now ≡ read.now)) }
 {
-    if file.is_empty() {
-        return None;
+    if is_text(stored, read) {
+        return Err(Misfit::OtherWords);
     }
-    Some(Command::Hash { file })
+    Ok(())
 }
 
-// Three names, of which the last is neither of the others.
-fn accumulate_names<'a>(state: &'a str, batch: &'a str, posterior: &'a str) -> Option<Command<'a>>
-    ensures { MatchOption result
-        (IsName state.now → IsName batch.now → IsName posterior.now → posterior.now ≢ state.now → posterior.now ≢ batch.now → ⊥)
-        (λ command. (asked command ≡ accumulate state.now batch.now posterior.now 0) × IsName state.now × IsName batch.now × IsName posterior.now × (posterior.now ≢ state.now) × (posterior.now ≢ batch.now)) }
+fn input(word: u8, name: &str, kind: Kind) -> Input<'_>
+    ensures word { result.word ≡ word }
+    ensures name { result.name.now ≡ name.now }
+    ensures kind { result.kind ≡ kind }
 {
-    if state.is_empty() || batch.is_empty() || posterior.is_empty() {
-        return None;
-    }
-    if is_text(posterior, state) || is_text(posterior, batch) {
-        return None;
-    }
-    Some(Command::Accumulate {
-        state,
-        batch,
-        posterior,
+    Input { word, name, kind }
+}
+
+fn run_of<'a>(alloc: Global, words: &'a [String]) -> Result<Line<'a>, Misfit>
+    ensures { Parses Run (texts words.now) result }
+{
+    let [blob, gas] = words else {
+        return Err(Misfit::OtherWords);
+    };
+    let blob = name(blob)?;
+    let gas = small(alloc, gas)?;
+    Ok(Line {
+        command: Command::Run { blob, gas },
+        inputs: vec![in alloc; input(1, blob, Kind::Program)]?,
+        stored: None,
     })
 }
 
-fn accumulate_of<'a>(
-    alloc: Global,
-    state: &'a str,
-    batch: &'a str,
-    posterior: &'a str,
-    slice: &str,
-) -> Result<Option<Command<'a>>, AllocError>
-    ensures { IfOk result (λ found. MatchOption found
-        (IsName state.now → IsName batch.now → IsName posterior.now → posterior.now ≢ state.now → posterior.now ≢ batch.now → IsNumber 0 slice.now → ⊥)
-        (λ command. (asked command ≡ accumulate state.now batch.now posterior.now 0) × IsName state.now × IsName batch.now × IsName posterior.now × (posterior.now ≢ state.now) × (posterior.now ≢ batch.now) × IsNumber 0 slice.now)) }
+fn hash_of<'a>(alloc: Global, words: &'a [String]) -> Result<Line<'a>, Misfit>
+    ensures { Parses Hash (texts words.now) result }
 {
-    match number_of(alloc, slice)? {
-        Some(number) if number == 0 => Ok(accumulate_names(state, batch, posterior)),
-        Some(_) => Ok(None),
-        None => Ok(None),
+    let [file] = words else {
+        return Err(Misfit::OtherWords);
+    };
+    let file = name(file)?;
+    Ok(Line {
+        command: Command::Hash { file },
+        inputs: vec![in alloc; input(1, file, Kind::Bytes)]?,
+        stored: None,
+    })
+}
+
+fn accumulate_of<'a>(alloc: Global, words: &'a [String]) -> Result<Line<'a>, Misfit>
+    ensures { Parses Accumulate (texts words.now) result }
+{
+    let [state, batch, posterior, slice] = words else {
+        return Err(Misfit::OtherWords);
+    };
+    let state = name(state)?;
+    let batch = name(batch)?;
+    let posterior = name(posterior)?;
+    let slice = number(alloc, slice, 1)?;
+    apart(posterior, state)?;
+    apart(posterior, batch)?;
+    Ok(Line {
+        command: Command::Accumulate {
+            state,
+            batch,
+            posterior,
+            slice,
+        },
+        inputs: vec![in alloc; input(1, state, Kind::State), input(2, batch, Kind::Batch)]?,
+        stored: Some(posterior),
+    })
+}
+
+// The command of a verb and the words after it.
+fn parse<'a>(alloc: Global, verb: Verb, words: &'a [String]) -> Result<Line<'a>, Misfit>
+    ensures { Parses verb (texts words.now) result }
+{
+    match verb {
+        Verb::Run => run_of(alloc, words),
+        Verb::Hash => hash_of(alloc, words),
+        Verb::Accumulate => accumulate_of(alloc, words),
     }
 }
 
 /// The command that has these words, if there is one.
-pub fn command_of(alloc: Global, words: &[String]) -> Result<Option<Command<'_>>, AllocError>
-    ensures asked { IfOk result (λ found. MatchOption found (AsksNothing (texts words.now)) (λ command. Asks (asked command) (texts words.now))) }
-    ensures small { IfOk result (λ found. IfSome found HasSmallGas) }
+#[tactic(auto, using(crate::proofs::Verbs::unknown))]
+pub fn command_of(alloc: Global, words: &[String]) -> Result<Option<Line<'_>>, AllocError>
+    ensures { IfOk result (λ found. MatchOption found (AsksNothing (texts words.now)) (λ line. Asks (asked line.command) (texts words.now) × IsLine line)) }
 {
-    match words {
-        [command, blob, gas] if is_text(command.as_str(), "run") => {
-            run_of(alloc, blob.as_str(), gas.as_str())
-        }
-        [command, file] if is_text(command.as_str(), "hash") => Ok(hash_of(file.as_str())),
-        [command, state, batch, posterior, slice] if is_text(command.as_str(), "accumulate") => {
-            accumulate_of(
-                alloc,
-                state.as_str(),
-                batch.as_str(),
-                posterior.as_str(),
-                slice.as_str(),
-            )
-        }
-        _ => Ok(None),
+    let [word, rest @ ..] = words else {
+        return Ok(None);
+    };
+    let Some(verb) = verb_of(word.as_str()) else {
+        return Ok(None);
+    };
+    match parse(alloc, verb, rest) {
+        Ok(line) => Ok(Some(line)),
+        Err(Misfit::OtherWords) => Ok(None),
+        Err(Misfit::NoMemory) => Err(AllocError),
     }
 }

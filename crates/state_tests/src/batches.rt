@@ -29,16 +29,25 @@ const RESULTS: [u8; 215] = [
     4, 4, 4, 4, 4, 4, 4, 4, 4, 4, 4, 4, 4, 4, 4, 4, 4, 4, 4, 4, 4, 4, 3,
 ];
 
+// The bytes as they are written again after they were read.
+fn written_again(alloc: Global, bytes: &[u8]) -> Result<Vec<u8>, FileRefusal> {
+    let batch = read_batch(alloc, bytes)?;
+    let again = write_batch(alloc, &batch)?;
+    Ok(again)
+}
+
+fn refusal_of(alloc: Global, bytes: &[u8]) -> Option<FileRefusal> {
+    read_batch(alloc, bytes).err()
+}
+
 #[test]
-fn reads_and_writes_an_empty_batch(rt: HostRuntime) -> Result<(), Fail> {
-    let batch = read_batch(rt.alloc(), &EMPTY).or(Err("a batch"))?;
-    assert_eq!(rt; batch.slot, 7);
-    assert_eq!(rt; batch.entropy, [0; 32]);
-    assert_eq!(rt; batch.gas, 0);
-    assert!(rt; batch.reports.as_slice().is_empty());
+fn reads_and_writes_an_empty_batch(rt: HostRuntime) -> Result<(), FileRefusal> {
+    let again = written_again(rt.alloc(), &EMPTY)?;
+    assert!(rt; again.as_slice() == EMPTY.as_slice());
+    let batch = read_batch(rt.alloc(), &again)?;
+    assert_eq!(rt; (batch.slot, batch.entropy, batch.gas), (7, [0; 32], 0));
     assert!(rt; batch.preimages.as_slice().is_empty());
-    let bytes = write_batch(rt.alloc(), &batch)?;
-    assert_eq!(rt; bytes.as_slice(), EMPTY.as_slice());
+    assert!(rt; batch.reports.as_slice().is_empty());
     assert!(rt; batch.reports.into_vec().is_empty());
     Ok(())
 }
@@ -51,9 +60,9 @@ fn bytes_that_spell_no_batch(rt: HostRuntime) {
     one_more[..46].copy_from_slice(&EMPTY);
     let table: [(&[u8], u64); 2] = [(&one_report, 44), (&one_more, 46)];
     for (bytes, place) in table {
-        let read = read_batch(rt.alloc(), bytes);
+        let refusal = refusal_of(rt.alloc(), bytes);
         assert!(rt;
-            read.err() == Some(FileRefusal::Malformed { place }),
+            refusal == Some(FileRefusal::Malformed { place }),
             "to {place}"
         );
     }
@@ -68,9 +77,9 @@ fn no_prefix_is_a_batch(rt: HostRuntime) {
             36..=43 => 36,
             _ => length as u64,
         };
-        let read = read_batch(rt.alloc(), &EMPTY[..length]);
+        let refusal = refusal_of(rt.alloc(), &EMPTY[..length]);
         assert!(rt;
-            read.err() == Some(FileRefusal::Malformed { place }),
+            refusal == Some(FileRefusal::Malformed { place }),
             "of {length}"
         );
     }
@@ -108,29 +117,51 @@ fn two_deliveries(rt: HostRuntime) -> Result<(), Fail> {
     Ok(())
 }
 
+// A report that is written again after it was read.
+fn report_again(alloc: Global, bytes: &[u8]) -> Result<Vec<u8>, FileRefusal> {
+    let report: Report = read_file(alloc, bytes)?;
+    let again = write_file(alloc, &report)?;
+    Ok(again)
+}
+
+fn results_of(alloc: Global, bytes: &[u8]) -> Result<ReportItems, FileRefusal> {
+    let report: Report = read_file(alloc, bytes)?;
+    Ok(ReportItems::new(report.items.into_vec()))
+}
+
+// Why the bytes with another at one place spell no report.
+fn refusal_with(
+    alloc: Global,
+    bytes: &[u8],
+    at: usize,
+    byte: u8,
+) -> Result<Option<FileRefusal>, AllocError> {
+    let mut changed = Vec::from_slice(alloc, bytes)?;
+    if let Some(place) = changed.get_mut(at) {
+        *place = byte;
+    }
+    let read: Result<Report, FileRefusal> = read_file(alloc, &changed);
+    Ok(read.err())
+}
+
 #[test]
-fn results_by_their_tags(rt: HostRuntime) -> Result<(), Fail> {
-    let report: Report = read_file(rt.alloc(), &RESULTS).or(Err("a report"))?;
-    let bytes = write_file(rt.alloc(), &report)?;
-    assert_eq!(rt; bytes.as_slice(), RESULTS.as_slice());
-    let items = ReportItems::new(report.items.into_vec());
-    match items.as_slice() {
-        [output, out_of_gas, panic, no_code] => {
-            assert!(rt;
-                matches!(&output.result, WorkResult::Output(bytes) if bytes.as_slice() == [7].as_slice())
-            );
-            assert!(rt; matches!(&out_of_gas.result, WorkResult::OutOfGas));
-            assert!(rt; matches!(&panic.result, WorkResult::Panic));
-            assert!(rt; matches!(&no_code.result, WorkResult::NoCode));
-        }
-        _ => Err("four items")?,
+fn results_by_their_tags(rt: HostRuntime) -> Result<(), FileRefusal> {
+    let again = report_again(rt.alloc(), &RESULTS)?;
+    assert!(rt; again.as_slice() == RESULTS.as_slice());
+    let items = results_of(rt.alloc(), &again)?;
+    assert_eq!(rt; items.as_slice().len(), 4);
+    if let [output, out_of_gas, panic, no_code] = items.as_slice() {
+        assert!(rt;
+            matches!(&output.result, WorkResult::Output(bytes) if bytes.as_slice() == b"\x07".as_slice())
+        );
+        assert!(rt; matches!(&out_of_gas.result, WorkResult::OutOfGas));
+        assert!(rt; matches!(&panic.result, WorkResult::Panic));
+        assert!(rt; matches!(&no_code.result, WorkResult::NoCode));
     }
     for (at, byte, place) in [(32, 17, 32), (77, 4, 77), (214, 4, 214)] {
-        let mut bytes = RESULTS;
-        bytes[at] = byte;
-        let read: Result<Report, FileRefusal> = read_file(rt.alloc(), &bytes);
+        let refusal = refusal_with(rt.alloc(), &again, at, byte)?;
         assert!(rt;
-            read.err() == Some(FileRefusal::Malformed { place }),
+            refusal == Some(FileRefusal::Malformed { place }),
             "to {place}"
         );
     }

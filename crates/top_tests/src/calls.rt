@@ -192,12 +192,15 @@ fn hash_prints_the_digests_of_the_worked_examples(rt: HostRuntime) -> Result<(),
     Ok(())
 }
 
+fn refused(place: u64) -> Status {
+    Status::Refused { word: 1, place }
+}
+
 #[test]
 fn other_words_and_other_blobs_are_refused(rt: HostRuntime) -> Result<(), Fail> {
     let alloc = rt.alloc();
-    let refused = Status::Refused { word: 1, place: 0 };
     let run: &[&str] = &["run", "blob", "7"];
-    let rows: [(&[&str], &[u8], Status); 13] = [
+    let rows: [(&[&str], &[u8], Status); 15] = [
         (&[], &FIRST_RUN, Status::BadWords),
         (&["run", "blob"], &FIRST_RUN, Status::BadWords),
         (&["run", "blob", "7", "7"], &FIRST_RUN, Status::BadWords),
@@ -211,9 +214,19 @@ fn other_words_and_other_blobs_are_refused(rt: HostRuntime) -> Result<(), Fail> 
         ),
         (&["hash"], &FIRST_RUN, Status::BadWords),
         (&["hash", ""], &FIRST_RUN, Status::BadWords),
-        (run, &FIRST_RUN[..14], refused),
-        (run, &[0, 9, 0], refused),
-        (run, b"\xff\xff\xff\xff\xff\xff\xff\xff\xff\x08\0", refused),
+        // The mask of two bytes begins at 13.
+        (run, &FIRST_RUN[..14], refused(13)),
+        // A width of 9.
+        (run, &[0, 9, 0], refused(1)),
+        // A table of 2^67 - 8 bytes.
+        (
+            run,
+            b"\xff\xff\xff\xff\xff\xff\xff\xff\xff\x08\0",
+            refused(11),
+        ),
+        // Nothing, and a byte after the blob.
+        (run, &[], refused(0)),
+        (run, &[0, 0, 0, 0], refused(3)),
         // 2 is not defined, and acts as trap
         (run, &[0, 0, 1, 2, 1], Status::Done),
     ];
@@ -224,6 +237,21 @@ fn other_words_and_other_blobs_are_refused(rt: HostRuntime) -> Result<(), Fail> 
         assert_eq!(rt; jam(alloc, &words, &mut vault, &mut sink), status);
         assert_eq!(rt; sink.bytes().is_empty(), status != Status::Done);
     }
+    Ok(())
+}
+
+#[test]
+fn a_run_has_all_of_its_gas(rt: HostRuntime) -> Result<(), Fail> {
+    let alloc = rt.alloc();
+    // 2^63 - 1 of gas, of which the first run takes 3; 2^63 is no number of a command line.
+    let start = u64::MAX - 65_535;
+    let mut vault = SureVault::new(alloc, one_file(alloc, &FIRST_RUN)?);
+    let mut sink = SureSink::new(alloc);
+    let words = words_of(alloc, &["run", "blob", "9223372036854775807"])?;
+    assert_eq!(rt; jam(alloc, &words, &mut vault, &mut sink), Status::Done);
+    let head = "exit halt\npc 8\ngas 9223372036854775804";
+    let wanted = block(alloc, head, start, 0, 42)?;
+    assert!(rt; sink.bytes() == wanted.as_bytes());
     Ok(())
 }
 

@@ -103,7 +103,55 @@ fn failing_devices_end_accumulate_by_their_cause(rt: HostRuntime) -> Result<(), 
         assert_eq!(rt; sink.bytes().len() == LINES.len(), all);
         assert!(rt; LINES.as_bytes().starts_with(sink.bytes()));
         assert_eq!(rt; vault.files.contains_key("post"), wanted == Status::Done);
+        assert_eq!(rt; vault.stores, u64::from(all));
+        assert_eq!(rt;
+            vault.read_faults,
+            u64::from(matches!(wanted, Status::ReadFault(_)))
+        );
+        assert_eq!(rt; vault.store_faults, u64::from(wanted == Status::StoreFault));
     }
+    Ok(())
+}
+
+#[test]
+fn files_are_read_in_the_order_of_their_words(rt: HostRuntime) -> Result<(), Fail> {
+    let alloc = rt.alloc();
+    // Each file takes two reads, at its front and at its end; the k-th fails.
+    for (read, name, place) in [
+        (1, "state", 0),
+        (2, "state", STATE.len() as u64),
+        (3, "batch", 0),
+        (4, "batch", BATCH.len() as u64),
+    ] {
+        let mut vault = vault_of(alloc, &STATE, &BATCH, read, 9)?;
+        let mut sink = MemSink::new(alloc, Vec::new(alloc));
+        let words = words_of(alloc, &["accumulate", "state", "batch", "post", "0"])?;
+        let status = jam(alloc, &words, &mut vault, &mut sink);
+        assert!(rt; matches!(status, Status::ReadFault(_)));
+        assert!(rt; vault.failed.as_str() == name, "at {read}");
+        assert_eq!(rt; vault.failed_place, place);
+        assert_eq!(rt; vault.reads, read);
+        assert_eq!(rt; vault.read_faults, 1);
+    }
+    // Of two files that are not there, the first is told; of two words with one name, the first.
+    for (words, word) in [
+        (["accumulate", "one", "two", "post", "0"], 1),
+        (["accumulate", "state", "two", "post", "0"], 2),
+    ] {
+        let mut vault = vault_of(alloc, &STATE, &BATCH, 9, 9)?;
+        let mut sink = MemSink::new(alloc, Vec::new(alloc));
+        let words = words_of(alloc, &words)?;
+        let status = jam(alloc, &words, &mut vault, &mut sink);
+        assert_eq!(rt; status, Status::ReadFault(word));
+        assert_eq!(rt; vault.stores, 0);
+    }
+    let mut vault = vault_of(alloc, &STATE, &BATCH, 3, 9)?;
+    let mut sink = MemSink::new(alloc, Vec::new(alloc));
+    let words = words_of(alloc, &["accumulate", "state", "state", "post", "0"])?;
+    assert_eq!(rt;
+        jam(alloc, &words, &mut vault, &mut sink),
+        Status::ReadFault(1)
+    );
     Ok(())
 }
 
@@ -111,8 +159,14 @@ fn failing_devices_end_accumulate_by_their_cause(rt: HostRuntime) -> Result<(), 
 fn other_words_and_other_files_are_refused(rt: HostRuntime) -> Result<(), Fail> {
     let alloc = rt.alloc();
     let good: &[&str] = &["accumulate", "state", "batch", "post", "0"];
-    let first = Status::Refused { word: 1, place: 0 };
-    let second = Status::Refused { word: 2, place: 0 };
+    // The last slot of a history begins at 238, the entropy of a batch at 4, the count of its
+    // reports at 44.
+    let first = Status::Refused {
+        word: 1,
+        place: 238,
+    };
+    let second = Status::Refused { word: 2, place: 4 };
+    let count = Status::Refused { word: 2, place: 44 };
     let rows: [(&[&str], &[u8], &[u8], Status); 9] = [
         (
             &["accumulate", "state", "batch", "post"],
@@ -148,7 +202,7 @@ fn other_words_and_other_files_are_refused(rt: HostRuntime) -> Result<(), Fail> 
             &["accumulate", "state", "state", "post", "0"],
             &STATE,
             &BATCH,
-            second,
+            count,
         ),
         (good, &STATE[..241], &BATCH, first),
         (good, &STATE[..241], &BATCH[..9], first),

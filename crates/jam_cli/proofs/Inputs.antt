@@ -1,0 +1,134 @@
+-- The inputs read so far, and the first of a list of inputs at which something holds.
+use Rattle.std.proofs.Common.{◌≡◌, ◌≢◌, ◌⊎◌, inl, inr, ℕ, zero, suc, ◌+◌, ◌-◌, ◌<◌, ◌≤◌, List, [], ◌∷◌, ◌++◌, map, length, take, drop, get_or, refl, sym, ap, ◌∙◌, subst, arith, IfSome, Some, None, Option, Err, Vec}
+use Rattle.std.specs.declared.alloc.Global.{Global}
+use Rattle.std.proofs.lemmas.List.{map-append, take_rest}
+use Rattle.jam_outside.specs.Files.{Files, content}
+use Rattle.jam_outside.specs.Causes.{VaultState, read_failed, whole_read_leaves}
+use Rattle.jam_outside.specs.declared.whole.ReadRefusal.{ReadRefusal}
+use Rattle.jam_outside.specs.declared.whole.ReadRefusal.TheVariants as read
+use Rattle.jam_cli.specs.declared.refusal.Refusal.{Refusal}
+use Rattle.jam_cli.specs.declared.refusal.Refusal.TheVariants.{ReadFault, TooLong}
+use Rattle.jam_cli.specs.declared.reads.Input as code_input
+use Rattle.jam_cli.specs.declared.reads.File as code_file
+use Rattle.jam_cli.specs.declared.verb.Kind.TheVariants.{Program}
+use Rattle.jam_cli.specs.Table.{Input, NamesNone}
+use Rattle.jam_cli.specs.Command.{File, held}
+use Rattle.jam_cli.specs.Ending.{limit, WasRead, AllRead, FirstTooLong, FirstNamed, IsInputWord}
+use Rattle.jam_cli.specs.Parts.{plain, plains, plain_file, plain_files, inputs_in, NotRead, EndOf}
+
+-- what the code has where no input is
+abbrev pub nothing : code_input.Input
+nothing = record { word = 0; name = record { ref_ptr = (0, 0); now = [] }; kind = Program }
+
+-- an input is the one at a place
+pub record IsAt (xs : List code_input.Input) (k : ℕ) (x : code_input.Input) : Type 0 where
+  pub within : k < length xs
+  pub at : x ≡ get_or xs k x
+
+at_later : (y : code_input.Input) (ys : List code_input.Input) (k : ℕ) (x : code_input.Input) → IsAt (y ∷ ys) (suc k) x → IsAt ys k x
+at_later y ys k x is = record { within = omega (arith, is.within); at = is.at }
+
+pub at_index : (xs : List code_input.Input) (k : ℕ) (d : code_input.Input) → k < length xs → IsAt xs k (get_or xs k d)
+at_index [] k d within = absurd (omega (arith, within))
+at_index (y ∷ ys) zero d within = record { within = within; at = refl }
+at_index (y ∷ ys) (suc k) d within =
+    let later : IsAt ys k (get_or ys k d) = at_index ys k d (omega (arith, within)) in
+    record { within = within; at = later.at }
+
+plains_more : (xs : List code_input.Input) (k : ℕ) (x : code_input.Input) → IsAt xs k x → plains (take (suc k) xs) ≡ plains (take k xs) ++ (plain x ∷ [])
+plains_more [] k x is = absurd (omega (arith, is.within))
+plains_more (y ∷ ys) zero x is = ap (λ (z : code_input.Input). plain z ∷ []) (sym is.at)
+plains_more (y ∷ ys) (suc k) x is = ap (λ zs. plain y ∷ zs) (plains_more ys k x (at_later y ys k x is))
+
+more : (xs : List code_input.Input) (k : ℕ) (x : code_input.Input) → IsAt xs k x → plains (take (k + 1) xs) ≡ plains (take k xs) ++ (plain x ∷ [])
+more xs k x is = let next : k + 1 ≡ suc k = omega arith in rw next (plains_more xs k x is)
+
+none_push : (is : List Input) (i : Input) (name : List ℕ) → NamesNone is name → name ≢ i.name → NamesNone (is ++ (i ∷ [])) name
+none_push [] i name none other = (other, tt)
+none_push (j ∷ is) i name none other = (none.0, none_push is i name none.1 other)
+
+pub none_more : (xs : List code_input.Input) (k : ℕ) (x : code_input.Input) (name : List ℕ) → IsAt xs k x → NamesNone (plains (take k xs)) name → name ≢ x.name.now
+    → NamesNone (plains (take (k + 1) xs)) name
+none_more xs k x name is none other = subst (λ ys. NamesNone ys name) (sym (more xs k x is)) (none_push (plains (take k xs)) (plain x) name none other)
+
+pub first_named : (xs : List code_input.Input) (k : ℕ) (x : code_input.Input) (name : List ℕ) → IsAt xs k x → NamesNone (plains (take k xs)) name → name ≡ x.name.now → FirstNamed name (plains xs) x.word
+first_named [] k x name is none same = absurd (omega (arith, is.within))
+first_named (y ∷ ys) zero x name is none same = inl (ap (λ (z : code_input.Input). z.name.now) (sym is.at) ∙ sym same, ap (λ (z : code_input.Input). z.word) (sym is.at))
+first_named (y ∷ ys) (suc k) x name is none same = inr ((λ e. none.0 (sym e)), first_named ys k x name (at_later y ys k x is) none.1 same)
+
+named_at : (xs : List code_input.Input) (k : ℕ) (x : code_input.Input) → IsAt xs k x → NamesNone (plains xs) x.name.now → ⊥
+named_at [] k x is none = absurd (omega (arith, is.within))
+named_at (y ∷ ys) zero x is none = none.0 (ap (λ (z : code_input.Input). z.name.now) is.at)
+named_at (y ∷ ys) (suc k) x is none = named_at ys k x (at_later y ys k x is) none.1
+
+word_at : (xs : List code_input.Input) (k : ℕ) (x : code_input.Input) → IsAt xs k x → IsInputWord (plains xs) x.word
+word_at [] k x is = absurd (omega (arith, is.within))
+word_at (y ∷ ys) zero x is = inl (ap (λ (z : code_input.Input). z.word) (sym is.at))
+word_at (y ∷ ys) (suc k) x is = inr (word_at ys k x (at_later y ys k x is))
+
+first_too_long : (files : Files) (xs : List code_input.Input) (k : ℕ) (x : code_input.Input) → IsAt xs k x → AllRead (held files (plains (take k xs)))
+    → limit < length (content files x.name.now) → FirstTooLong (held files (plains xs)) x.word
+first_too_long files [] k x is all long = absurd (omega (arith, is.within))
+first_too_long files (y ∷ ys) zero x is all long =
+    inl (ap (λ (z : code_input.Input). z.word) (sym is.at), rw (← ap (λ (z : code_input.Input). z.name.now) is.at) long)
+first_too_long files (y ∷ ys) (suc k) x is all long = inr (all.0, first_too_long files ys k x (at_later y ys k x is) all.1 long)
+
+-- what is known of the files that were read
+abbrev pub IsReadSoFar : Option Files → List Input → List File → Type 0
+IsReadSoFar told is all = IfSome told (λ files. AllRead (held files is) × (all ≡ held files is))
+
+read_push : (fs : List File) (f : File) → AllRead fs → WasRead f → AllRead (fs ++ (f ∷ []))
+read_push [] f all one = (one, tt)
+read_push (g ∷ fs) f all one = (all.0, read_push fs f all.1 one)
+
+abbrev file_with : Input → List ℕ → File
+file_with i bytes = record { input = i; bytes = bytes }
+
+abbrev file_of : Files → Input → File
+file_of files i = record { input = i; bytes = content files i.name }
+
+held_more : (files : Files) (xs : List code_input.Input) (k : ℕ) (x : code_input.Input) → IsAt xs k x
+    → held files (plains (take (k + 1) xs)) ≡ held files (plains (take k xs)) ++ (file_of files (plain x) ∷ [])
+held_more files xs k x is = ap (held files) (more xs k x is) ∙ map-append (file_of files) (plains (take k xs)) (plain x ∷ [])
+
+-- one file more
+pub read_more : (told : Option Files) (xs : List code_input.Input) (k : ℕ) (x : code_input.Input) (all : List code_file.File) (f : code_file.File) → IsAt xs k x
+    → IsReadSoFar told (plains (take k xs)) (plain_files all) → f.input ≡ x → length f.bytes.items ≤ limit → IfSome told (λ files. f.bytes.items ≡ content files x.name.now)
+    → IsReadSoFar told (plains (take (k + 1) xs)) (plain_files (all ++ (f ∷ [])))
+read_more None xs k x all f is before same fits gives = tt
+read_more (Some files) xs k x all f is before same fits gives =
+    let one : plain_file f ≡ file_of files (plain x) = ap (λ (i : code_input.Input). file_with (plain i) f.bytes.items) same ∙ ap (file_with (plain x)) gives in
+    let fit : length (content files x.name.now) ≤ limit = subst (λ (b : List ℕ). length b ≤ limit) gives fits in
+    let pushed : plain_files (all ++ (f ∷ [])) ≡ plain_files all ++ (plain_file f ∷ []) = map-append plain_file all (f ∷ []) in (
+      subst AllRead (sym (held_more files xs k x is)) (read_push (held files (plains (take k xs))) (file_of files (plain x)) before.0 fit),
+      pushed ∙ ap (λ fs. fs ++ (plain_file f ∷ [])) before.1 ∙ ap (λ g. held files (plains (take k xs)) ++ (g ∷ [])) one ∙ sym (held_more files xs k x is),
+    )
+
+pub inputs_more : (xs : List code_input.Input) (k : ℕ) (x : code_input.Input) (all : List code_file.File) (f : code_file.File) → IsAt xs k x → f.input ≡ x
+    → inputs_in all ≡ plains (take k xs) → inputs_in (all ++ (f ∷ [])) ≡ plains (take (k + 1) xs)
+inputs_more xs k x all f is same before =
+    map-append (λ (g : code_file.File). plain g.input) all (f ∷ []) ∙ ap (λ is. is ++ (plain f.input ∷ [])) before
+    ∙ ap (λ (i : code_input.Input). plains (take k xs) ++ (plain i ∷ [])) same ∙ sym (more xs k x is)
+
+named_of : (xs : List code_input.Input) (k : ℕ) (x : code_input.Input) (word : ℕ) → IsAt xs k x → FirstNamed x.name.now (plains xs) word ⊎ NamesNone (plains xs) x.name.now
+    → FirstNamed x.name.now (plains xs) word
+named_of xs k x word is (inl first) = first
+named_of xs k x word is (inr none) = absurd (named_at xs k x is none)
+
+too_long_of : (told : Option Files) (xs : List code_input.Input) (k : ℕ) (x : code_input.Input) (all : List File) → IsAt xs k x → IsReadSoFar told (plains (take k xs)) all
+    → IfSome told (λ files. limit < length (content files x.name.now)) → IfSome told (λ files. FirstTooLong (held files (plains xs)) x.word)
+too_long_of None xs k x all is before long = tt
+too_long_of (Some files) xs k x all is before long = first_too_long files xs k x is before.0 long
+
+-- how a read that was refused leaves the vault and ends the reading
+pub ends : (refusal : ReadRefusal) (end : Refusal) (v w : VaultState) (xs : List code_input.Input) (k : ℕ) (x : code_input.Input) (all : List File) → IsAt xs k x
+    → IsReadSoFar v.files (plains (take k xs)) all → w ≡ whole_read_leaves {X = Vec ℕ Global} (Err refusal) v x.name.now w.failed_place
+    → (refusal ≡ read.ReadFault → w.failed_place ≤ limit)
+    → (refusal ≡ read.TooLong → IfSome v.files (λ files. limit < length (content files x.name.now)))
+    → EndOf refusal end (plains xs) (plain x) → NotRead end (plains xs) v w
+ends read.ReadFault end v w xs k x all is before left place long (word, is_it, first) =
+    let name : w.failed ≡ x.name.now = ap (λ (u : VaultState). u.failed) left in
+    rw is_it (left ∙ ap (λ n. read_failed v n w.failed_place) (sym name), subst (λ n. FirstNamed n (plains xs) word) (sym name) (named_of xs k x word is first), place refl)
+ends read.TooLong end v w xs k x all is before left place long is_it =
+    rw is_it (left, word_at xs k x is, too_long_of v.files xs k x all is before (long refl))
+ends read.NoMemory end v w xs k x all is before left place long is_it = rw is_it left

@@ -1,0 +1,27 @@
+use Rattle.std.proofs.Common.{◌≡◌, ℕ, get_or, take, ap, refl, ◌∙◌, sym, Err, Some, IfSome, subst, map}
+use Rattle.jam_outside.specs.Files.{content}
+use Rattle.jam_outside.specs.Causes.{VaultState, whole_read_leaves}
+use Rattle.jam_cli.specs.Parts.{plains, plain_files, inputs_in, NotRead}
+use Rattle.jam_cli.proofs.Inputs.{nothing, at_index, ends, read_more, inputs_more, IsReadSoFar}
+use Rattle.jam_cli.proofs.reads.read_inputs.Goals as goal
+
+pub returns-in-Err-clause-not_read : goal.returns-in-Err-clause-not_read
+returns-in-Err-clause-not_read g c =
+    subst (λ (v : VaultState). NotRead c.end_of.result (plains c.args.inputs.now) v (g.V.Vault.state c.read_whole.new.vault)) c.loop-input.invariant.same
+    (ends c.in-Err.refusal c.end_of.result (g.V.Vault.state c.loop-input.vault) _ c.args.inputs.now c.loop-input.input-index (get_or c.args.inputs.now c.loop-input.input-index nothing) (plain_files c.loop-input.all.items)
+    (at_index c.args.inputs.now c.loop-input.input-index nothing c.loop-input-test.true)
+    (subst (λ (v : VaultState). IsReadSoFar v.files (plains (take c.loop-input.input-index c.args.inputs.now)) (plain_files c.loop-input.all.items)) (sym c.loop-input.invariant.same) c.loop-input.invariant.read)
+    c.in-Err.ensures.state (λ e. c.in-Err.ensures.place (ap Err e)) (λ e. c.in-Err.ensures.too_long (ap Err e)) c.end_of.ensures)
+
+pub loop-input-preserved : goal.loop-input-preserved
+loop-input-preserved g c =
+    let k = c.loop-input.input-index in
+    let x = get_or c.args.inputs.now k nothing in
+    let at = at_index c.args.inputs.now k nothing c.loop-input-test.true in
+    let told : IfSome (g.V.Vault.state c.args.vault.now).files (λ files. c.in-Ok.bytes.items ≡ content files x.name.now) =
+    subst (λ (v : VaultState). IfSome v.files (λ files. c.in-Ok.bytes.items ≡ content files x.name.now)) c.loop-input.invariant.same c.in-Ok.ensures.bytes in
+    record {
+      same = c.in-Ok.ensures.state ∙ c.loop-input.invariant.same;
+      inputs = ap inputs_in c.in_ok-push-in-Ok.ensures.items ∙ inputs_more c.args.inputs.now k x c.loop-input.all.items _ at refl c.loop-input.invariant.inputs;
+      read = rw (c.in_ok-push-in-Ok.ensures.items) (read_more _ c.args.inputs.now k x c.loop-input.all.items _ at c.loop-input.invariant.read refl c.in-Ok.ensures.fits told);
+    }

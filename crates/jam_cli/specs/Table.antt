@@ -1,0 +1,126 @@
+-- The table of words: the verbs, each with its name and its parts in order; and what words ask for by it.
+use Rattle.std.specs.Prelude.{◌≡◌, ◌≢◌, ℕ, ◌+◌, ◌^◌, ◌<◌, List, [], ◌∷◌, map, codes, decimal, String, string_bytes, Option, Some, None, IfSome}
+use Rattle.std.specs.List.{find}
+use Rattle.std.specs.Str.{bytes_eq}
+use Rattle.std.specs.declared.alloc.Global.{Global}
+use Rattle.jam_cli.specs.declared.verb.Kind.{Kind}
+use Rattle.jam_cli.specs.declared.verb.Kind.TheVariants.{Program, Bytes, State, Batch}
+use Rattle.jam_cli.specs.declared.verb.Verb.{Verb}
+use Rattle.jam_cli.specs.declared.verb.Verb.TheVariants.{Run, Hash, Accumulate}
+
+-- a part: the name of a file that is read, with what it holds; the name that is stored under; a number below a bound
+pub data Part : Type 0 where
+  reads : (kind : Kind) → Part
+  stores : Part
+  number : (bound : ℕ) → Part
+
+pub record Row : Type 0 where
+  pub name : List ℕ
+  pub parts : List Part
+
+-- the table; the slice of accumulate is 0 for now
+abbrev pub row : Verb → Row
+row Run = record { name = codes "run"; parts = reads Program ∷ (number (2 ^ 63) ∷ []) }
+row Hash = record { name = codes "hash"; parts = reads Bytes ∷ [] }
+row Accumulate = record { name = codes "accumulate"; parts = reads State ∷ (reads Batch ∷ (stores ∷ (number 1 ∷ []))) }
+
+abbrev pub verbs : List Verb
+verbs = Run ∷ (Hash ∷ (Accumulate ∷ []))
+
+-- the verb with a name, if there is one
+unfoldable pub verb_named : List ℕ → Option Verb
+verb_named word = find (λ verb. bytes_eq (row verb).name word) verbs
+
+-- the argument for a part: a name, or a number
+abbrev pub Argument : Part → Type 0
+Argument (reads kind) = List ℕ
+Argument stores = List ℕ
+Argument (number bound) = ℕ
+
+abbrev pub Arguments : List Part → Type 0
+Arguments [] = Unit {0}
+Arguments (part ∷ parts) = Argument part × Arguments parts
+
+-- its word: a name as it is, a number in decimal digits without leading zeros
+abbrev pub word_of : (part : Part) → Argument part → List ℕ
+word_of (reads kind) name = name
+word_of stores name = name
+word_of (number bound) n = decimal n
+
+abbrev pub words_from : (parts : List Part) → Arguments parts → List (List ℕ)
+words_from [] arguments = []
+words_from (part ∷ parts) arguments = word_of part arguments.0 ∷ words_from parts arguments.1
+
+-- a name is not empty, and a number is below its bound
+abbrev pub Fits : (part : Part) → Argument part → Type 0
+Fits (reads kind) name = name ≢ []
+Fits stores name = name ≢ []
+Fits (number bound) n = n < bound
+
+abbrev pub FitAll : (parts : List Part) → Arguments parts → Type 0
+FitAll [] arguments = Unit {0}
+FitAll (part ∷ parts) arguments = Fits part arguments.0 × FitAll parts arguments.1
+
+-- a file that is read: the number of its word, where the verb is word 0; its name, and what it holds
+pub record Input : Type 0 where
+  pub word : ℕ
+  pub name : List ℕ
+  pub kind : Kind
+
+-- the inputs among the parts, of which the first is this word
+abbrev pub with_input : ℕ → (part : Part) → Argument part → List Input → List Input
+with_input word (reads kind) name later = record { word = word; name = name; kind = kind } ∷ later
+with_input word stores name later = later
+with_input word (number bound) n later = later
+
+abbrev pub inputs_from : ℕ → (parts : List Part) → Arguments parts → List Input
+inputs_from word [] arguments = []
+inputs_from word (part ∷ parts) arguments = with_input word part arguments.0 (inputs_from (word + 1) parts arguments.1)
+
+-- the name of the first part that stores
+abbrev pub or_stored : (part : Part) → Argument part → Option (List ℕ) → Option (List ℕ)
+or_stored (reads kind) name later = later
+or_stored stores name later = Some name
+or_stored (number bound) n later = later
+
+abbrev pub stored_from : (parts : List Part) → Arguments parts → Option (List ℕ)
+stored_from [] arguments = None
+stored_from (part ∷ parts) arguments = or_stored part arguments.0 (stored_from parts arguments.1)
+
+-- a command: a verb, and an argument for each part of its row
+pub record Command : Type 0 where
+  pub verb : Verb
+  pub arguments : Arguments (row verb).parts
+
+abbrev pub command : (verb : Verb) → Arguments (row verb).parts → Command
+command verb arguments = record { verb = verb; arguments = arguments }
+
+abbrev pub words_of : Command → List (List ℕ)
+words_of c = (row c.verb).name ∷ words_from (row c.verb).parts c.arguments
+
+-- the files that it reads, in the order of their words
+abbrev pub inputs : Command → List Input
+inputs c = inputs_from 1 (row c.verb).parts c.arguments
+
+-- the name that it stores under, if it stores
+abbrev pub stored_name : Command → Option (List ℕ)
+stored_name c = stored_from (row c.verb).parts c.arguments
+
+-- no input has the name
+abbrev pub NamesNone : List Input → List ℕ → Type 0
+NamesNone [] name = Unit {0}
+NamesNone (i ∷ is) name = (name ≢ i.name) × NamesNone is name
+
+-- the words ask for the command: they are its words, its arguments fit, and it stores under no name that it reads
+pub record Asks (c : Command) (words : List (List ℕ)) : Type 0 where
+  pub words_are : words ≡ words_of c
+  pub fit : FitAll (row c.verb).parts c.arguments
+  pub apart : IfSome (stored_name c) (NamesNone (inputs c))
+
+-- no row of the table has these words
+abbrev pub AsksNothing : List (List ℕ) → Type 0
+AsksNothing words = (c : Command) → Asks c words → ⊥
+
+-- the bytes of the words
+abbrev pub texts : List (String Global) → List (List ℕ)
+texts words = map (λ w. string_bytes w) words

@@ -1,0 +1,95 @@
+// What each command makes of the values of its files.
+ghost use Rattle.std.specs.Prelude.{◌≡◌, [], ◌∷◌, IfOk, IfErr};
+ghost use Rattle.jam_cli.specs.declared.verb.Kind.TheVariants as kind;
+ghost use Rattle.jam_cli.specs.declared.verb.Verb.TheVariants.{Run, Hash, Accumulate};
+ghost use Rattle.jam_cli.specs.Table.{command, inputs};
+ghost use Rattle.jam_cli.specs.Command.{kinds};
+ghost use Rattle.jam_cli.specs.Parts.{asked, plain_files, inputs_in, plain_work, IsWork, NotAllSpelled};
+
+use crate::accumulate::accumulate;
+use crate::hash::hash;
+use crate::number::Small;
+use crate::reads::File;
+use crate::refusal::Refusal;
+use crate::run::run;
+use crate::values::Contents;
+use crate::words::Command;
+use std::alloc::Global;
+
+/// Bytes, and the name under which they are to be stored.
+#[derive(Drop)]
+pub struct Entry<'a> {
+    pub name: &'a str,
+    pub bytes: Vec<u8>,
+}
+
+/// What a command prints, and what it stores, if anything.
+#[derive(Drop)]
+pub struct Work<'a> {
+    pub text: Vec<u8>,
+    pub entry: Option<Entry<'a>>,
+}
+
+#[tactic(auto, using(std::proofs::lemmas::Result::err_from_is_err_and))]
+fn run_on<'a>(
+    alloc: Global,
+    blob: &'a str,
+    gas: Small,
+    files: &[File<'_>],
+) -> Result<Work<'a>, Refusal>
+    requires { kinds (inputs_in files.now) ≡ kind.Program ∷ [] }
+    ensures made { IfOk result (λ work. IsWork (command Run (blob.now, (gas.value, tt))) (plain_files files.now) (plain_work work)) }
+    ensures refused { IfErr result (λ refusal. NotAllSpelled refusal (plain_files files.now)) }
+{
+    let (program, ()) = Contents::decode_all(alloc, files)?;
+    Ok(run(alloc, program, gas)?)
+}
+
+#[tactic(auto, using(std::proofs::lemmas::Result::err_from_is_err_and))]
+fn hash_on<'a>(alloc: Global, file: &'a str, files: &[File<'_>]) -> Result<Work<'a>, Refusal>
+    requires { kinds (inputs_in files.now) ≡ kind.Bytes ∷ [] }
+    ensures made { IfOk result (λ work. IsWork (command Hash (file.now, tt)) (plain_files files.now) (plain_work work)) }
+    ensures refused { IfErr result (λ refusal. NotAllSpelled refusal (plain_files files.now)) }
+{
+    let (bytes, ()): (&[u8], ()) = Contents::decode_all(alloc, files)?;
+    Ok(hash(alloc, bytes)?)
+}
+
+#[tactic(auto, using(std::proofs::lemmas::Result::err_from_is_err_and))]
+fn accumulate_on<'a>(
+    alloc: Global,
+    state: &'a str,
+    batch: &'a str,
+    posterior: &'a str,
+    slice: u64,
+    files: &[File<'_>],
+) -> Result<Work<'a>, Refusal>
+    requires { kinds (inputs_in files.now) ≡ kind.State ∷ (kind.Batch ∷ []) }
+    ensures made { IfOk result (λ work. IsWork (command Accumulate (state.now, (batch.now, (posterior.now, (slice, tt))))) (plain_files files.now) (plain_work work)) }
+    ensures refused { IfErr result (λ refusal. NotAllSpelled refusal (plain_files files.now)) }
+{
+    let (prior, (batch, ())) = Contents::decode_all(alloc, files)?;
+    Ok(accumulate(alloc, &prior, &batch, posterior)?)
+}
+
+/// The work of a command on its files.
+pub fn work_of<'a>(
+    alloc: Global,
+    command: Command<'a>,
+    files: &[File<'_>],
+) -> Result<Work<'a>, Refusal>
+    requires { kinds (inputs_in files.now) ≡ kinds (inputs (asked command)) }
+    ensures made { IfOk result (λ work. IsWork (asked command.entry) (plain_files files.now) (plain_work work)) }
+    ensures refused { IfErr result (λ refusal. NotAllSpelled refusal (plain_files files.now)) }
+{
+    match command {
+        Command::Run { blob, gas } => run_on(alloc, blob, gas, files),
+        Command::Hash { file } => hash_on(alloc, file, files),
+        Command::Accumulate {
+            state,
+            batch,
+            posterior,
+            slice,
+        } => accumulate_on(alloc, state, batch, posterior, slice, files),
+    }
+}
