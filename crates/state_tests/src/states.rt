@@ -91,8 +91,8 @@ const FIELDS: [u64; 64] = [
 // Of a file of these fields that is cut to a length: where the last field ends that is whole.
 fn whole_fields(fields: &[u64], length: u64) -> u64 {
     let mut place = 0u64;
-    for field in fields {
-        let end = place.saturating_add(*field);
+    for size in fields {
+        let end = place.saturating_add(*size);
         if end > length {
             return place;
         }
