@@ -15,7 +15,10 @@ pub fn words_of(rt: &HostRuntime) -> Result<Vec<String>, Status>
     ensures { IfErr result (λ status. (status ≡ NoMemory) ⊎ (status ≡ BadWords)) }
 {
     match env::args(rt) {
-        Ok(words) => Ok(words.skip(1).collect(rt.alloc())?),
+        Ok(words) => match words.skip(1).collect(rt.alloc()) {
+            Ok(words) => Ok(words),
+            Err(_) => Err(Status::NoMemory),
+        },
         Err(e) if is_out_of_memory(&e) => Err(Status::NoMemory),
         Err(_) => Err(Status::BadWords),
     }
