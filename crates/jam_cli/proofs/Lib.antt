@@ -1,3 +1,4 @@
+pub mod Listed
 pub mod Verbs
 pub mod Once
 pub mod Starts

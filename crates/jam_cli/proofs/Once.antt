@@ -13,9 +13,11 @@ use Rattle.jam_cli.specs.declared.verb.Kind.{Kind}
 use Rattle.jam_cli.specs.declared.verb.Kind.TheVariants.{Program, Bytes, State, Batch}
 use Rattle.jam_cli.specs.declared.verb.Verb.{Verb}
 use Rattle.jam_cli.specs.declared.verb.Verb.TheVariants.{Run}
-use Rattle.jam_cli.specs.Table.{Part, reads, stores, number, row, Argument, Arguments, word_of, words_from, Fits, FitAll, Input, Command, command, Asks, inputs, stored_name, NamesNone}
+use Rattle.jam_cli.specs.Table.{Part, reads, stores, number, row, Argument, Arguments, Fits, FitAll, Input, Command, command, Asks, inputs, stored_name, NamesNone}
 use Rattle.jam_cli.specs.Command.{ValueOf, format_of, File, Values, SpellAll, IsRefusedAt, kinds, work, work_of}
 use Rattle.jam_cli.specs.Laws.{AskOnce, StoreApart, SpellOnce, RefuseOnce, EntryNamed}
+use Rattle.jam_cli.specs.Parts.{word_of, words_from, Lists}
+use Rattle.jam_cli.proofs.Listed.{lists_of}
 use Rattle.jam_cli.proofs.Verbs.{name-injective}
 
 -- decimal digits are known to tell numbers below 2 ^ 64 apart
@@ -62,15 +64,17 @@ same_arguments (part ∷ parts) ok a b fa fb e =
     let oks = both_true (is_small part) (are_small parts) ok in
     pair a b (same_argument part oks.0 a.0 b.0 fa.0 fb.0 (head e)) (same_arguments parts oks.1 a.1 b.1 fa.1 fb.1 (tail e))
 
-same_of_verb : (verb : Verb) (words : List (List ℕ)) (a b : Arguments (row verb).parts) → Asks (command verb a) words → Asks (command verb b) words → command verb a ≡ command verb b
-same_of_verb verb words a b asks_a asks_b = ap (command verb) (same_arguments (row verb).parts (small verb) a b asks_a.fit asks_b.fit (tail (sym asks_a.words_are ∙ asks_b.words_are)))
+same_of_verb : (verb : Verb) (words : List (List ℕ)) (a b : Arguments (row verb).parts) → Lists (command verb a) words → Lists (command verb b) words → command verb a ≡ command verb b
+same_of_verb verb words a b p q = ap (command verb) (same_arguments (row verb).parts (small verb) a b p.fit q.fit (tail (sym p.words_are ∙ q.words_are)))
 
-same_of : (v w : Verb) → v ≡ w → (words : List (List ℕ)) (a : Arguments (row v).parts) (b : Arguments (row w).parts) → Asks (command v a) words → Asks (command w b) words → command v a ≡ command w b
-same_of v w same words a = subst (λ (w : Verb). (b : Arguments (row w).parts) → Asks (command v a) words → Asks (command w b) words → command v a ≡ command w b) same (same_of_verb v words a)
+same_of : (v w : Verb) → v ≡ w → (words : List (List ℕ)) (a : Arguments (row v).parts) (b : Arguments (row w).parts) → Lists (command v a) words → Lists (command w b) words → command v a ≡ command w b
+same_of v w same words a = subst (λ (w : Verb). (b : Arguments (row w).parts) → Lists (command v a) words → Lists (command w b) words → command v a ≡ command w b) same (same_of_verb v words a)
+
+once_listed : (c d : Command) (words : List (List ℕ)) → Lists c words → Lists d words → c ≡ d
+once_listed c d words p q = same_of c.verb d.verb (name-injective c.verb d.verb (head (sym p.words_are ∙ q.words_are))) words c.arguments d.arguments p q
 
 pub once : AskOnce
-once c d words asks_c asks_d =
-    same_of c.verb d.verb (name-injective c.verb d.verb (head (sym asks_c.words_are ∙ asks_d.words_are))) words c.arguments d.arguments asks_c asks_d
+once c d words p q = once_listed c d words (lists_of c words p) (lists_of d words q)
 
 none_named : (is : List Input) (name : List ℕ) (i : Input) → NamesNone is name → Contains is i → i.name ≢ name
 none_named [] name i none has = absurd (omega (arith, has.1))

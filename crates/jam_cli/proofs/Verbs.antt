@@ -7,8 +7,9 @@ use Rattle.jam_cli.specs.declared.verb.Verb.{Verb}
 use Rattle.jam_cli.specs.declared.verb.Verb.TheVariants.{Run}
 use Rattle.jam_cli.specs.declared.words.Misfit.{Misfit}
 use Rattle.jam_cli.specs.declared.words.Misfit.TheVariants.{OtherWords}
-use Rattle.jam_cli.specs.Table.{row, verb_named, Arguments, command, Asks, AsksNothing, texts}
-use Rattle.jam_cli.specs.Parts.{Parses}
+use Rattle.jam_cli.specs.Table.{row, verb_named, Arguments, Command, command, Asks, AsksNothing, texts}
+use Rattle.jam_cli.specs.Parts.{Lists, Parses}
+use Rattle.jam_cli.proofs.Listed.{lists_of, asks_of}
 
 -- the checker finds each verb by its name
 named : (verb : Verb) → verb_named (row verb).name ≡ Some verb
@@ -21,22 +22,22 @@ name-injective v w same =
     let found : Some v ≡ Some w = sym (named v) ∙ ap verb_named same ∙ named w in
     cc
 
-head : {x y : List ℕ} {xs ys : List (List ℕ)} → x ∷ xs ≡ y ∷ ys → x ≡ y
-head e = cc
-
 -- the first word names no verb
 pub unknown : (word : List ℕ) (rest : List (List ℕ)) → verb_named word ≡ None → AsksNothing (word ∷ rest)
 unknown word rest none c asks =
-    let found : verb_named word ≡ Some c.verb = ap verb_named (head asks.words_are) ∙ named c.verb in
+    let found : verb_named word ≡ Some c.verb = ap verb_named asks.words_are.0 ∙ named c.verb in
     absurd (cc (none, found))
 
 -- the first word names a verb by which nothing is asked
 only_verb : (verb : Verb) (word : List ℕ) (rest : List (List ℕ)) → word ≡ (row verb).name
-    → ((arguments : Arguments (row verb).parts) → Asks (command verb arguments) ((row verb).name ∷ rest) → ⊥) → AsksNothing (word ∷ rest)
+    → ((arguments : Arguments (row verb).parts) → Lists (command verb arguments) ((row verb).name ∷ rest) → ⊥) → AsksNothing (word ∷ rest)
 only_verb verb word rest is none c asks =
-    let same : c.verb ≡ verb = name-injective c.verb verb (sym (head asks.words_are) ∙ is) in
-    let asks_it : Asks c ((row c.verb).name ∷ rest) = subst (λ w. Asks c (w ∷ rest)) (head asks.words_are) asks in
-    subst (λ v. ((arguments : Arguments (row v).parts) → Asks (command v arguments) ((row v).name ∷ rest) → ⊥) → ⊥) same (λ (f : (arguments : Arguments (row c.verb).parts) → Asks (command c.verb arguments) ((row c.verb).name ∷ rest) → ⊥). f c.arguments asks_it) none
+    let same : c.verb ≡ verb = name-injective c.verb verb (sym asks.words_are.0 ∙ is) in
+    let listed : Lists c ((row c.verb).name ∷ rest) = subst (λ w. Lists c (w ∷ rest)) asks.words_are.0 (lists_of c (word ∷ rest) asks) in
+    subst (λ v. ((arguments : Arguments (row v).parts) → Lists (command v arguments) ((row v).name ∷ rest) → ⊥) → ⊥) same (λ (f : (arguments : Arguments (row c.verb).parts) → Lists (command c.verb arguments) ((row c.verb).name ∷ rest) → ⊥). f c.arguments listed) none
+
+pub parsed : (verb : Verb) (word : List ℕ) (rest : List (List ℕ)) (c : Command) → word ≡ (row verb).name → Lists c ((row verb).name ∷ rest) → Asks c (word ∷ rest)
+parsed verb word rest c is lists = asks_of c (word ∷ rest) (subst (λ w. Lists c (w ∷ rest)) (sym is) lists)
 
 pub not_parsed : (verb : Verb) (word : List ℕ) (rest : List (List ℕ)) (misfit : Misfit) → word ≡ (row verb).name → misfit ≡ OtherWords
     → Parses verb rest (Err misfit) → AsksNothing (word ∷ rest)

@@ -1,5 +1,5 @@
 -- What the parts of a call say. Proofs alone need this.
-use Rattle.std.specs.Prelude.{◌≡◌, ◌≢◌, ◌⊎◌, ℕ, ◌<◌, ◌≤◌, List, [], ◌∷◌, map, Option, Some, None, option_map, IfSome, Result, Ok, Err}
+use Rattle.std.specs.Prelude.{◌≡◌, ◌≢◌, ◌⊎◌, ℕ, ◌<◌, ◌≤◌, List, [], ◌∷◌, map, Option, Some, None, option_map, IfSome, Result, Ok, Err, decimal}
 use Rattle.jam_outside.specs.Files.{Files}
 use Rattle.jam_outside.specs.Causes.{VaultState, SinkState, Raised, Appends, AppendsPrefix, read_failed, store_made, store_done, store_failed}
 use Rattle.jam_outside.specs.declared.whole.ReadRefusal.{ReadRefusal}
@@ -22,7 +22,7 @@ use Rattle.jam_cli.specs.declared.reads.Input as code_input
 use Rattle.jam_cli.specs.declared.reads.File as code_file
 use Rattle.jam_cli.specs.declared.work.Work as code_work
 use Rattle.jam_cli.specs.declared.work.Entry as code_entry
-use Rattle.jam_cli.specs.Table.{row, Arguments, Command, command, Asks, AsksNothing, Input, inputs, stored_name, NamesNone}
+use Rattle.jam_cli.specs.Table.{Part, reads, stores, number, row, Argument, Arguments, FitAll, Command, command, Asks, AsksNothing, Input, inputs, stored_name, NamesNone}
 use Rattle.jam_cli.specs.Command.{File, held, kinds, Values, SpellAll, IsRefusedAt, Work, work}
 use Rattle.jam_cli.specs.Ending.{Call, limit, AllRead, FirstTooLong, FirstRefused, FirstNamed, IsInputWord, Gives, IsReadFault, IsTooLong, IsRefused}
 
@@ -33,6 +33,25 @@ abbrev pub asked : parsed.Command → Command
 asked (of.Run blob gas) = command Run (blob.now, (gas.value, tt))
 asked (of.Hash file) = command Hash (file.now, tt)
 asked (of.Accumulate state batch posterior slice) = command Accumulate (state.now, (batch.now, (posterior.now, (slice, tt))))
+
+-- the words of a command, where each argument has one word
+abbrev pub word_of : (part : Part) → Argument part → List ℕ
+word_of (reads kind) name = name
+word_of stores name = name
+word_of (number bound) n = decimal n
+
+abbrev pub words_from : (parts : List Part) → Arguments parts → List (List ℕ)
+words_from [] arguments = []
+words_from (part ∷ parts) arguments = word_of part arguments.0 ∷ words_from parts arguments.1
+
+abbrev pub words_of : Command → List (List ℕ)
+words_of c = (row c.verb).name ∷ words_from (row c.verb).parts c.arguments
+
+-- the same as to ask for the command
+pub record Lists (c : Command) (words : List (List ℕ)) : Type 0 where
+  pub words_are : words ≡ words_of c
+  pub fit : FitAll (row c.verb).parts c.arguments
+  pub apart : IfSome (stored_name c) (NamesNone (inputs c))
 
 -- the inputs that the code holds
 abbrev pub plain : code_input.Input → Input
@@ -47,8 +66,8 @@ IsLine l = (plains l.inputs.items ≡ inputs (asked l.command)) × (option_map (
 
 -- what the words after a verb are parsed as
 abbrev pub Parses : Verb → List (List ℕ) → Result parsed_line.Line Misfit → Type 0
-Parses verb words (Ok l) = Asks (asked l.command) ((row verb).name ∷ words) × IsLine l
-Parses verb words (Err misfit.OtherWords) = (arguments : Arguments (row verb).parts) → Asks (command verb arguments) ((row verb).name ∷ words) → ⊥
+Parses verb words (Ok l) = Lists (asked l.command) ((row verb).name ∷ words) × IsLine l
+Parses verb words (Err misfit.OtherWords) = (arguments : Arguments (row verb).parts) → Lists (command verb arguments) ((row verb).name ∷ words) → ⊥
 Parses verb words (Err misfit.NoMemory) = Unit {0}
 
 -- ---- The files

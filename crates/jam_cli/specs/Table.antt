@@ -41,15 +41,19 @@ abbrev pub Arguments : List Part → Type 0
 Arguments [] = Unit {0}
 Arguments (part ∷ parts) = Argument part × Arguments parts
 
--- its word: a name as it is, a number in decimal digits without leading zeros
-abbrev pub word_of : (part : Part) → Argument part → List ℕ
-word_of (reads kind) name = name
-word_of stores name = name
-word_of (number bound) n = decimal n
+-- a word of an argument: a name itself, a number's decimal digits without leading zeros. It is no function of the argument,
+-- since bytes in hexadecimal may have digits of either case
+abbrev pub IsWord : (part : Part) → Argument part → List ℕ → Type 0
+IsWord (reads kind) name word = word ≡ name
+IsWord stores name word = word ≡ name
+IsWord (number bound) n word = word ≡ decimal n
 
-abbrev pub words_from : (parts : List Part) → Arguments parts → List (List ℕ)
-words_from [] arguments = []
-words_from (part ∷ parts) arguments = word_of part arguments.0 ∷ words_from parts arguments.1
+-- words of the arguments, one for each part
+abbrev pub AreWords : (parts : List Part) → Arguments parts → List (List ℕ) → Type 0
+AreWords [] arguments [] = Unit {0}
+AreWords [] arguments (word ∷ words) = ⊥
+AreWords (part ∷ parts) arguments [] = ⊥
+AreWords (part ∷ parts) arguments (word ∷ words) = IsWord part arguments.0 word × AreWords parts arguments.1 words
 
 -- a name is not empty, and a number is below its bound
 abbrev pub Fits : (part : Part) → Argument part → Type 0
@@ -95,8 +99,10 @@ pub record Command : Type 0 where
 abbrev pub command : (verb : Verb) → Arguments (row verb).parts → Command
 command verb arguments = record { verb = verb; arguments = arguments }
 
-abbrev pub words_of : Command → List (List ℕ)
-words_of c = (row c.verb).name ∷ words_from (row c.verb).parts c.arguments
+-- words of a command: the name of its verb, and then words of its arguments
+abbrev pub AreWordsOf : Command → List (List ℕ) → Type 0
+AreWordsOf c [] = ⊥
+AreWordsOf c (word ∷ words) = (word ≡ (row c.verb).name) × AreWords (row c.verb).parts c.arguments words
 
 -- the files that it reads, in the order of their words
 abbrev pub inputs : Command → List Input
@@ -111,9 +117,9 @@ abbrev pub NamesNone : List Input → List ℕ → Type 0
 NamesNone [] name = Unit {0}
 NamesNone (i ∷ is) name = (name ≢ i.name) × NamesNone is name
 
--- the words ask for the command: they are its words, its arguments fit, and it stores under no name that it reads
+-- the words ask for the command: they are words of it, its arguments fit, and it stores under no name that it reads
 pub record Asks (c : Command) (words : List (List ℕ)) : Type 0 where
-  pub words_are : words ≡ words_of c
+  pub words_are : AreWordsOf c words
   pub fit : FitAll (row c.verb).parts c.arguments
   pub apart : IfSome (stored_name c) (NamesNone (inputs c))
 
