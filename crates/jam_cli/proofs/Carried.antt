@@ -1,16 +1,15 @@
 -- How a call of a command ends, by what its parts did.
-use Rattle.std.proofs.Common.{◌≡◌, ◌⊎◌, ℕ, List, [], ◌∷◌, sym, ap, ◌∙◌, subst, refl, inl, inr, Option, Some, None, Result, Ok, Err, map, length}
+use Rattle.std.proofs.Common.{◌≡◌, ℕ, List, [], ◌∷◌, sym, ap, ◌∙◌, subst, refl, inl, inr, Option, Some, None, Result, Ok, Err, map, length}
 use Rattle.std.specs.Prelude.{IfSome}
-use Rattle.jam_outside.specs.Files.{Files}
 use Rattle.jam_outside.specs.Causes.{VaultState, SinkState, Appends, AppendsPrefix, store_made, store_failed}
 use Rattle.std.proofs.Math.Seq.{take-length}
 use Rattle.jam_cli.specs.declared.refusal.Refusal.{Refusal}
 use Rattle.jam_cli.specs.declared.refusal.Refusal.TheVariants.{NoMemory, BadWords, ReadFault, TooLong, NotSpelled, SinkFault, StoreFault}
 use Rattle.jam_cli.specs.declared.reads.File as code_file
-use Rattle.jam_cli.specs.Table.{Input, Command, Asks, inputs, stored_name}
-use Rattle.jam_cli.specs.Command.{File, held, kinds, Values, SpellAll, Work, work}
-use Rattle.jam_cli.specs.Ending.{Call, call, AllRead, FirstRefused, FirstTooLong, IsInputWord, Gives}
-use Rattle.jam_cli.specs.Parts.{NotRead, NotAllSpelled, NotPrinted, NotStored, IsWork, Makes, PrintsAll, Ends, CallEnds, name_in, entry_stored, plain, plain_files, inputs_in}
+use Rattle.jam_cli.specs.Table.{Input, Command, Asks, inputs}
+use Rattle.jam_cli.specs.Command.{File, held, kinds, SpellAll, Work}
+use Rattle.jam_cli.specs.Ending.{Call, call, AllRead, FirstRefused, IsInputWord}
+use Rattle.jam_cli.specs.Parts.{NotRead, NotAllSpelled, NotPrinted, NotStored, IsWork, Makes, Ends, CallEnds, name_in, plain, plain_files, inputs_in}
 use Rattle.jam_cli.proofs.Once.{entry_named}
 
 -- where a fact holds of what is told, so does what follows from it

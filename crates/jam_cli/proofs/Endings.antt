@@ -1,5 +1,5 @@
 -- What each status of a call says follows from how the call ends.
-use Rattle.std.proofs.Common.{◌≡◌, ◌≢◌, ◌⊎◌, ℕ, ◌<◌, List, [], ◌∷◌, arith, ap, sym, ◌∙◌, subst, refl, inl, inr, Bool, true, false, cond, Option, Some, None, unwrap_or, Result, Ok, Err, map, Ordering}
+use Rattle.std.proofs.Common.{◌≡◌, ◌≢◌, ◌⊎◌, ℕ, List, [], ◌∷◌, arith, ap, sym, ◌∙◌, subst, refl, inl, inr, Bool, true, false, cond, Option, Some, None, unwrap_or, Result, Ok, Err, Ordering}
 use Rattle.std.specs.Prelude.{IfSome, option_map, is_some}
 use Rattle.std.specs.Ordering.{nat_cmp, eq_by_cmp, is_eq}
 use Rattle.std.specs.declared.cmp.Ordering.TheVariants.{Less, Equal, Greater}
@@ -7,18 +7,17 @@ use Rattle.std.specs.Cmp.Lexicographic.{slice_cmp, nat_list_cmp_total}
 use Rattle.std.specs.FinMap as fin
 use Rattle.std.specs.FinMap.{nat_cmp-IsAntisymmetric, slice_cmp-IsAntisymmetric}
 use Rattle.jam_outside.specs.Files.{Files, content}
-use Rattle.jam_outside.specs.Causes.{VaultState, SinkState, Raised, counted_where, Appends, AppendsPrefix, store_done}
+use Rattle.jam_outside.specs.Causes.{VaultState, SinkState, Raised, counted_where, Appends, AppendsPrefix}
 use Rattle.jam_cli.specs.declared.status.Status.{Status}
 use Rattle.jam_cli.specs.declared.status.Status.TheVariants as status
 use Rattle.jam_cli.specs.declared.refusal.Refusal.{Refusal}
 use Rattle.jam_cli.specs.declared.refusal.Refusal.TheVariants.{NoMemory, BadWords, ReadFault, TooLong, NotSpelled, SinkFault, StoreFault}
-use Rattle.jam_cli.specs.declared.verb.Kind.{Kind}
 use Rattle.jam_cli.specs.Table.{Command, Asks, Input, inputs, stored_name, NamesNone}
 use Rattle.jam_cli.specs.Command.{File, held, kinds, Values, SpellAll, Work, work}
-use Rattle.jam_cli.specs.Ending.{Call, limit, WasRead, AllRead, FirstTooLong, FirstRefused, Gives, PrintedNothing, PrintedAll, PrintedPrefix, KeepsFiles, StoredAll, with_entry, IsReadFault, IsTooLong, IsRefused, DoneMeans, BadWordsMeans, BadWordsComes, ReadFaultMeans, TooLongMeans, TooLongComes, RefusedMeans, RefusedComes, SinkFaultMeans, StoreFaultMeans, NoMemoryMeans, SilentMeans, OthersKeepFiles, AllKept, InputsKept, CountsFaults, KeepsNames, CountsStores, ServedIsDone}
+use Rattle.jam_cli.specs.Ending.{Call, AllRead, FirstTooLong, FirstRefused, Gives, PrintedNothing, PrintedAll, PrintedPrefix, KeepsFiles, StoredAll, with_entry, IsReadFault, IsTooLong, IsRefused, DoneMeans, BadWordsMeans, BadWordsComes, ReadFaultMeans, TooLongMeans, TooLongComes, RefusedMeans, RefusedComes, SinkFaultMeans, StoreFaultMeans, NoMemoryMeans, SilentMeans, OthersKeepFiles, AllKept, InputsKept, CountsFaults, KeepsNames, CountsStores, ServedIsDone}
 use Rattle.jam_cli.specs.Parts.{Makes, Untouched, PrintsAll, Ends, CallEnds, status_of, entry_stored, name_in}
-use Rattle.jam_cli.proofs.Once.{once, refuse_once, entry_named}
-use Rattle.jam_cli.proofs.Carried.{follows, prefix_all}
+use Rattle.jam_cli.proofs.Once.{once, refuse_once}
+use Rattle.jam_cli.proofs.Carried.{follows}
 
 abbrev Words : Type 0
 Words = List (List ℕ)

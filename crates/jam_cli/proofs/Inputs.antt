@@ -1,13 +1,12 @@
 -- The inputs read so far, and the first of a list of inputs at which something holds.
-use Rattle.std.proofs.Common.{◌≡◌, ◌≢◌, ◌⊎◌, inl, inr, ℕ, zero, suc, ◌+◌, ◌-◌, ◌<◌, ◌≤◌, List, [], ◌∷◌, ◌++◌, map, length, take, drop, get_or, refl, sym, ap, ◌∙◌, subst, arith, IfSome, Some, None, Option, Err, Vec}
+use Rattle.std.proofs.Common.{◌≡◌, ◌≢◌, ◌⊎◌, inl, inr, ℕ, zero, suc, ◌+◌, ◌<◌, ◌≤◌, List, [], ◌∷◌, ◌++◌, length, take, get_or, refl, sym, ap, ◌∙◌, subst, arith, IfSome, Some, None, Option, Err, Vec}
 use Rattle.std.specs.declared.alloc.Global.{Global}
-use Rattle.std.proofs.lemmas.List.{map-append, take_rest}
+use Rattle.std.proofs.lemmas.List.{map-append}
 use Rattle.jam_outside.specs.Files.{Files, content}
 use Rattle.jam_outside.specs.Causes.{VaultState, read_failed, whole_read_leaves}
 use Rattle.jam_outside.specs.declared.whole.ReadRefusal.{ReadRefusal}
 use Rattle.jam_outside.specs.declared.whole.ReadRefusal.TheVariants as read
 use Rattle.jam_cli.specs.declared.refusal.Refusal.{Refusal}
-use Rattle.jam_cli.specs.declared.refusal.Refusal.TheVariants.{ReadFault, TooLong}
 use Rattle.jam_cli.specs.declared.reads.Input as code_input
 use Rattle.jam_cli.specs.declared.reads.File as code_file
 use Rattle.jam_cli.specs.declared.verb.Kind.TheVariants.{Program}

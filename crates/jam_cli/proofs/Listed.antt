@@ -1,5 +1,5 @@
 -- Words that ask for a command are its words.
-use Rattle.std.proofs.Common.{◌≡◌, ℕ, List, [], ◌∷◌, refl, sym, ap, ◌∙◌, subst}
+use Rattle.std.proofs.Common.{◌≡◌, ℕ, List, [], ◌∷◌, refl, sym, subst}
 use Rattle.jam_cli.specs.Table.{Part, reads, stores, number, row, Argument, Arguments, IsWord, AreWords, AreWordsOf, Command, Asks}
 use Rattle.jam_cli.specs.Parts.{word_of, words_from, words_of, Lists}
 

@@ -1,10 +1,9 @@
 -- What holds once of a call: its command, its values, a place, and names apart.
-use Rattle.std.proofs.Common.{◌≡◌, ◌≢◌, ℕ, ◌+◌, ◌<◌, ◌≤◌, ◌^◌, Bool, true, false, List, [], ◌∷◌, ◌++◌, length, Option, refl, sym, ap, ◌∙◌, subst, arith, zero, suc}
+use Rattle.std.proofs.Common.{◌≡◌, ◌≢◌, ℕ, ◌<◌, ◌^◌, Bool, true, false, List, [], ◌∷◌, Option, refl, sym, ap, ◌∙◌, subst, arith, zero, suc}
 use Rattle.std.specs.Prelude.{◌&&◌, Contains, IfSome, option_map}
 use Rattle.std.proofs.Math.Dec.{ltb}
 use Rattle.std.proofs.lemmas.Bool.{ltb-true}
 use Rattle.std.proofs.lemmas.Fmt.{decimal_injective}
-use Rattle.jam_codec.specs.Format.{Format, Spells}
 use Rattle.jam_codec.specs.Laws.{HasOneSpelling}
 use Rattle.blob_decode.specs.Program.{program_blob}
 use Rattle.state_file.specs.StateFile.{state_format}
@@ -13,8 +12,8 @@ use Rattle.jam_cli.specs.declared.verb.Kind.{Kind}
 use Rattle.jam_cli.specs.declared.verb.Kind.TheVariants.{Program, Bytes, State, Batch}
 use Rattle.jam_cli.specs.declared.verb.Verb.{Verb}
 use Rattle.jam_cli.specs.declared.verb.Verb.TheVariants.{Run}
-use Rattle.jam_cli.specs.Table.{Part, reads, stores, number, row, Argument, Arguments, Fits, FitAll, Input, Command, command, Asks, inputs, stored_name, NamesNone}
-use Rattle.jam_cli.specs.Command.{ValueOf, format_of, File, Values, SpellAll, IsRefusedAt, kinds, work, work_of}
+use Rattle.jam_cli.specs.Table.{Part, reads, stores, number, row, Argument, Arguments, Fits, FitAll, Input, Command, command, inputs, stored_name, NamesNone}
+use Rattle.jam_cli.specs.Command.{format_of, Values, kinds, work_of}
 use Rattle.jam_cli.specs.Laws.{AskOnce, StoreApart, SpellOnce, RefuseOnce, EntryNamed}
 use Rattle.jam_cli.specs.Parts.{word_of, words_from, Lists}
 use Rattle.jam_cli.proofs.Listed.{lists_of}

@@ -8,8 +8,7 @@ use Rattle.jam_cli.specs.declared.refusal.Refusal.{Refusal}
 use Rattle.jam_cli.specs.declared.refusal.Refusal.TheVariants.{NoMemory, BadWords, ReadFault, TooLong, NotSpelled, SinkFault, StoreFault}
 use Rattle.jam_cli.specs.declared.verb.Kind.{Kind}
 use Rattle.jam_cli.specs.declared.reads.File as code_file
-use Rattle.jam_cli.specs.Command.{File, ValueOf, format_of, kinds, IsSpelled, IsRefusedAt}
-use Rattle.jam_cli.specs.Ending.{FirstRefused}
+use Rattle.jam_cli.specs.Command.{File, ValueOf, format_of, kinds, IsSpelled}
 use Rattle.jam_cli.specs.Parts.{plain_file, plain_files, inputs_in, IsNone, refused_as, NotAllSpelled}
 
 head : {k l : Kind} {ks ls : List Kind} → k ∷ ks ≡ l ∷ ls → k ≡ l

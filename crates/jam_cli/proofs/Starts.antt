@@ -2,7 +2,6 @@
 use Rattle.std.proofs.Common.{◌≡◌, ◌+◌, ℕ, None, replicate, ap, sym, ◌∙◌, arith}
 use Rattle.std.specs.FinMap as fin
 use Rattle.blob_decode.specs.Program.{Program}
-use Rattle.pvm_step.specs.Effect.{State}
 use Rattle.pvm_step.specs.History.{Moment, answer, raw, reached}
 use Rattle.pvm_step.specs.Machine.{Machine, state_of}
 

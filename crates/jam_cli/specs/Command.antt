@@ -1,5 +1,5 @@
 -- The work of each command: what it prints and stores, as a function of its arguments and of the values of its files.
-use Rattle.std.specs.Prelude.{◌≡◌, ℕ, ◌+◌, ◌-◌, List, [], ◌∷◌, ◌++◌, length, map, Ok, Option, Some, None}
+use Rattle.std.specs.Prelude.{ℕ, ◌+◌, ◌-◌, List, [], ◌∷◌, length, map, Ok, Option, Some, None}
 use Rattle.std.specs.FinMap as fin
 use Rattle.jam_codec.specs.Format.{Format, Spells, from}
 use Rattle.jam_codec.specs.Laws.{Longest}

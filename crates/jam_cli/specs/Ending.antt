@@ -6,7 +6,7 @@ use Rattle.jam_outside.specs.Causes.{VaultState, SinkState, Raised, counted_wher
 use Rattle.jam_cli.specs.declared.status.Status.{Status}
 use Rattle.jam_cli.specs.declared.status.Status.TheVariants.{Done, NoMemory, BadWords, ReadFault, TooLong, Refused, SinkFault, StoreFault}
 use Rattle.jam_cli.specs.Table.{Input, Command, inputs, stored_name, Asks, AsksNothing}
-use Rattle.jam_cli.specs.Command.{File, held, kinds, Values, SpellAll, IsSpelled, IsRefusedAt, Work, work}
+use Rattle.jam_cli.specs.Command.{File, held, kinds, Values, SpellAll, IsSpelled, IsRefusedAt, work}
 
 -- what is known of the outside at a call's begin and at its end
 pub record Call : Type 0 where

@@ -1,6 +1,5 @@
 -- What holds of the table and of what files spell, whatever the words and the files.
-use Rattle.std.specs.Prelude.{◌≡◌, ◌≢◌, ℕ, List, Contains, Option, Some, option_map}
-use Rattle.jam_codec.specs.Laws.{Longest}
+use Rattle.std.specs.Prelude.{◌≡◌, ◌≢◌, ℕ, List, Contains, Some, option_map}
 use Rattle.jam_cli.specs.declared.verb.Kind.{Kind}
 use Rattle.jam_cli.specs.Table.{Command, Input, Asks, inputs, stored_name}
 use Rattle.jam_cli.specs.Command.{File, Values, SpellAll, kinds, IsRefusedAt, work}

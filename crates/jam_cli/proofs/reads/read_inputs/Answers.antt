@@ -1,6 +1,6 @@
-use Rattle.std.proofs.Common.{◌≡◌, ℕ, get_or, take, ap, refl, ◌∙◌, sym, Err, Some, IfSome, subst, map}
+use Rattle.std.proofs.Common.{◌≡◌, get_or, take, ap, refl, ◌∙◌, sym, Err, IfSome, subst}
 use Rattle.jam_outside.specs.Files.{content}
-use Rattle.jam_outside.specs.Causes.{VaultState, whole_read_leaves}
+use Rattle.jam_outside.specs.Causes.{VaultState}
 use Rattle.jam_cli.specs.Parts.{plains, plain_files, inputs_in, NotRead}
 use Rattle.jam_cli.proofs.Inputs.{nothing, at_index, ends, read_more, inputs_more, IsReadSoFar}
 use Rattle.jam_cli.proofs.reads.read_inputs.Goals as goal

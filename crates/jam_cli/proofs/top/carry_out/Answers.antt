@@ -1,8 +1,7 @@
-use Rattle.std.proofs.Common.{◌≡◌, ◌∙◌, ap, subst, sym}
+use Rattle.std.proofs.Common.{◌∙◌, ap, subst}
 use Rattle.std.proofs.lemmas.Result.{err_from_is_err_and}
 use Rattle.jam_outside.specs.Causes.{Appends}
-use Rattle.jam_cli.specs.Command.{Work}
-use Rattle.jam_cli.specs.Parts.{asked, plains, plain_files, plain_work, NotAllSpelled, NotPrinted, IsWork, Makes, entry_stored}
+use Rattle.jam_cli.specs.Parts.{asked, plains, plain_files, plain_work, NotAllSpelled, NotPrinted, IsWork, entry_stored}
 use Rattle.jam_cli.proofs.Carried.{inputs_plain, were_read, spell_ends, makes, print_ends, store_ends}
 use Rattle.jam_cli.proofs.top.carry_out.Goals as goal
 

@@ -1,4 +1,3 @@
-use Rattle.std.proofs.Common.{◌≡◌}
 use Rattle.std.proofs.lemmas.Result.{err_from_is_err_and}
 use Rattle.jam_cli.proofs.Spelled.{first_file, front_refused, later_refused}
 use Rattle.jam_cli.proofs.values.Tuple2Contents.decode_all.Goals as goal
