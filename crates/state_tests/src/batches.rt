@@ -5,7 +5,6 @@ use batch_file::{
 use jam_codec::FileRefusal;
 use jam_fields::{Blob, read_file, write_file};
 use std::alloc::{AllocError, Global};
-use std::test::Fail;
 
 // Slot 7, and nothing else.
 const EMPTY: [u8; 46] = [
@@ -86,33 +85,42 @@ fn no_prefix_is_a_batch(rt: HostRuntime) {
 }
 
 fn delivery(alloc: Global, service: u32, bytes: &[u8]) -> Result<Delivery, AllocError> {
-    let bytes = Blob::new(Vec::from_slice(alloc, bytes)?);
+    let bytes = Vec::from_slice(alloc, bytes)?;
+    let bytes = Blob::new(bytes);
     Ok(Delivery { service, bytes })
 }
 
-#[test]
-fn two_deliveries(rt: HostRuntime) -> Result<(), Fail> {
-    let alloc = rt.alloc();
+// A batch with two deliveries.
+fn delivering(alloc: Global) -> Result<Batch, FileRefusal> {
     let first = delivery(alloc, 5, &[0xaa, 0xbb])?;
     let second = delivery(alloc, 1, &[])?;
-    let batch = Batch {
+    let mut deliveries = Vec::new(alloc);
+    deliveries.push(first)?;
+    deliveries.push(second)?;
+    Ok(Batch {
         slot: 0x102,
         entropy: [9; 32],
         gas: 1000,
-        reports: Reports::new(vec![in alloc]?),
-        preimages: Deliveries::new(vec![in alloc; first, second]?),
-    };
-    let bytes = write_batch(alloc, &batch)?;
-    assert_eq!(rt; bytes.as_slice(), DELIVERED.as_slice());
-    let read = read_batch(alloc, bytes.as_slice()).or(Err("a batch"))?;
-    assert_eq!(rt; read.slot, batch.slot);
-    assert_eq!(rt; read.entropy, batch.entropy);
-    assert_eq!(rt; read.gas, batch.gas);
+        reports: Reports::new(Vec::new(alloc)),
+        preimages: Deliveries::new(deliveries),
+    })
+}
+
+#[test]
+fn two_deliveries(rt: HostRuntime) -> Result<(), FileRefusal> {
+    let batch = delivering(rt.alloc())?;
+    let bytes = write_batch(rt.alloc(), &batch)?;
+    assert!(rt; bytes.as_slice() == DELIVERED.as_slice());
+    let read = read_batch(rt.alloc(), &bytes)?;
+    assert_eq!(rt;
+        (read.slot, read.entropy, read.gas),
+        (batch.slot, batch.entropy, batch.gas)
+    );
     let left = read.preimages.into_vec();
     assert_eq!(rt; left.len(), 2);
     for (left, right) in left.iter().zip(batch.preimages.as_slice()) {
         assert_eq!(rt; left.service, right.service);
-        assert_eq!(rt; left.bytes.as_slice(), right.bytes.as_slice());
+        assert!(rt; left.bytes.as_slice() == right.bytes.as_slice());
     }
     Ok(())
 }

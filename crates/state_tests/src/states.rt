@@ -4,7 +4,6 @@ use jam_codec::FileRefusal;
 use preimage_store::History;
 use state_file::{read_state, write_state};
 use std::alloc::{AllocError, Global};
-use std::test::Fail;
 
 const EMPTY: [u8; 38] = [
     1, 0, 0, 0, 0, 0, 0, 0, 0, 0, 0, 0, 0, 0, 0, 0, 0, 0, 0, 0, 0, 0, 0, 0, 0, 0, 0, 0, 0, 0, 0, 0,
@@ -101,21 +100,25 @@ fn whole_fields(fields: &[u64], length: u64) -> u64 {
     place
 }
 
+// Where the bytes are refused as a state.
+fn refused_at(alloc: Global, bytes: &[u8]) -> Option<u64> {
+    match read_state(alloc, bytes) {
+        Err(FileRefusal::Malformed { place }) => Some(place),
+        _ => None,
+    }
+}
+
 #[test]
-fn two_accounts(rt: HostRuntime) -> Result<(), Fail> {
+fn two_accounts(rt: HostRuntime) -> Result<(), FileRefusal> {
     let state = state_of(rt.alloc())?;
     let bytes = write_state(rt.alloc(), &state)?;
-    let read = read_state(rt.alloc(), bytes.as_slice()).or(Err("two accounts"))?;
-    let again = write_state(rt.alloc(), &read)?;
+    let again = written_again(rt.alloc(), &bytes)?;
     assert!(rt; again.as_slice() == bytes.as_slice());
     for length in 0..bytes.len() {
-        let cut = read_state(rt.alloc(), &bytes[..length]);
-        let Err(FileRefusal::Malformed { place }) = cut else {
-            return Err(Fail::from("a prefix was read"));
-        };
+        let place = refused_at(rt.alloc(), &bytes[..length]);
         assert_eq!(rt;
             place,
-            whole_fields(&FIELDS, length as u64),
+            Some(whole_fields(&FIELDS, length as u64)),
             "of {length} bytes"
         );
     }
