@@ -1,16 +1,46 @@
 //! Blobs byte by byte, as a reader would write them out.
 use blob_decode::{Fetched, Program, ProgramRefusal};
 use pvm_isa::Op;
-use std::test::*;
+use std::alloc::Global;
+use std::process::Abort;
 
 // No jumps of width 0, ten bytes of code, the mask: instructions begin at places 0, 3 and 8.
 const BLOB: [u8; 15] = [
     0x00, 0x00, 0x0a, 0x33, 0x07, 0x2a, 0x33, 0x00, 0x00, 0x00, 0xff, 0x32, 0x00, 0x09, 0x01,
 ];
 
+fn program_of(alloc: Global, blob: &[u8]) -> Result<Program, ProgramRefusal> {
+    Program::deblob(alloc, blob)
+}
+
+// What is fetched is what the other calls say of the place, with these eight bytes.
+fn fetches(rt: &impl Abort, program: &Program, place: u64, bytes: Option<u64>) {
+    let op = program.op_at(place);
+    let skip = program.skip(place);
+    let next = place.wrapping_add(1 + u64::from(skip));
+    let wanted = bytes.map(|bytes| Fetched {
+        op,
+        skip,
+        next,
+        bytes,
+    });
+    assert_eq!(rt; program.fetch(place), wanted, "fetched at {place}");
+}
+
+fn stands(
+    rt: &impl Abort,
+    program: &Program,
+    (place, begins, op, skip, starts): (u64, bool, Op, u8, bool),
+) {
+    assert_eq!(rt; program.mask_at(place), begins, "mask at {place}");
+    assert_eq!(rt; program.op_at(place), op, "opcode at {place}");
+    assert_eq!(rt; program.skip(place), skip, "skip at {place}");
+    assert_eq!(rt; program.is_start(place), starts, "block at {place}");
+}
+
 #[test]
-fn a_program_is_read(rt: HostRuntime) -> Result<(), Fail> {
-    let program = Program::deblob(rt.alloc(), &BLOB).ok().ok_or("a blob")?;
+fn a_program_is_read(rt: HostRuntime) -> Result<(), ProgramRefusal> {
+    let program = program_of(rt.alloc(), &BLOB)?;
     assert!(rt; program.code() == &BLOB[3..13]);
     assert_eq!(rt; program.jump_count(), 0);
     assert_eq!(rt; program.width(), 0);
@@ -34,64 +64,91 @@ fn a_program_is_read(rt: HostRuntime) -> Result<(), Fail> {
         (u64::MAX, None),
     ];
     for (place, bytes) in bytes {
-        let wanted = bytes.map(|bytes| Fetched {
-            op: program.op_at(place),
-            skip: program.skip(place),
-            next: place.wrapping_add(1 + u64::from(program.skip(place))),
-            bytes,
-        });
-        assert_eq!(rt; program.fetch(place), wanted, "fetched at {place}");
+        fetches(&rt, &program, place, bytes);
     }
-    for (place, begins, op, skip, starts) in places {
-        assert_eq!(rt; program.mask_at(place), begins, "mask at {place}");
-        assert_eq!(rt; program.op_at(place), op, "opcode at {place}");
-        assert_eq!(rt; program.skip(place), skip, "skip at {place}");
-        assert_eq!(rt; program.is_start(place), starts, "block at {place}");
+    for row in places {
+        stands(&rt, &program, row);
     }
     Ok(())
 }
 
-#[test]
-fn an_instruction_has_at_most_24_bytes_of_arguments(rt: HostRuntime) -> Result<(), Fail> {
-    // Forty bytes of code, all traps; instructions begin at places 0 and 25, or 0 and 26.
-    for (mask, skip, starts) in [(0x02, 24, true), (0x04, 24, false)] {
-        let mut blob = [0; 48];
-        blob[2] = 40;
-        blob[43] = 1;
-        blob[46] = mask;
-        let program = Program::deblob(rt.alloc(), &blob).ok().ok_or("a blob")?;
-        assert_eq!(rt; program.skip(0), skip);
-        assert_eq!(rt; program.is_start(25) || program.is_start(26), starts);
-        assert_eq!(rt; program.skip(27), 12);
-    }
+// Forty bytes of code, all traps; instructions begin at places 0, 24 + i for each bit i of the mask's part, and 39.
+fn traps(mask: u8) -> [u8; 48] {
+    let mut blob = [0; 48];
+    blob[2] = 40;
+    blob[43] = 1;
+    blob[46] = mask;
+    blob
+}
+
+fn skips(
+    rt: &impl Abort,
+    alloc: Global,
+    blob: &[u8],
+    skip: u8,
+    starts: bool,
+) -> Result<(), ProgramRefusal> {
+    let program = program_of(alloc, blob)?;
+    assert_eq!(rt; program.skip(0), skip);
+    assert_eq!(rt; program.is_start(25) || program.is_start(26), starts);
+    assert_eq!(rt; program.skip(27), 12);
     Ok(())
 }
 
 #[test]
-fn a_jump_table_is_read(rt: HostRuntime) -> Result<(), Fail> {
+fn an_instruction_has_at_most_24_bytes_of_arguments(rt: HostRuntime) -> Result<(), ProgramRefusal> {
+    // Instructions begin at places 0 and 25, or 0 and 26.
+    skips(&rt, rt.alloc(), &traps(0x02), 24, true)?;
+    skips(&rt, rt.alloc(), &traps(0x04), 24, false)?;
+    Ok(())
+}
+
+#[test]
+fn a_jump_table_is_read(rt: HostRuntime) -> Result<(), ProgramRefusal> {
     let blob = [
         0x01, 0x01, 0x06, 0x05, 0x33, 0x01, 0x02, 0x32, 0x01, 0x00, 0x29,
     ];
-    let program = Program::deblob(rt.alloc(), &blob).ok().ok_or("a blob")?;
+    let program = program_of(rt.alloc(), &blob)?;
     assert_eq!(rt; program.jump_count(), 1);
-    assert_eq!(rt; program.jump_at(0), Some(5));
-    assert_eq!(rt; program.jump_at(1), None);
+    jumps(&rt, &program, 0, Some(5));
+    jumps(&rt, &program, 1, None);
     assert!(rt; program.is_start(5), "after jump_ind");
     let most = [
         0xff, 0xff, 0xff, 0xff, 0xff, 0xff, 0xff, 0xff, 0xff, 0x00, 0x00,
     ];
-    let program = Program::deblob(rt.alloc(), &most).ok().ok_or("a blob")?;
-    assert_eq!(rt; program.jump_at(u64::MAX - 1), Some(0));
-    assert_eq!(rt; program.jump_at(u64::MAX), None);
+    let program = program_of(rt.alloc(), &most)?;
+    jumps(&rt, &program, u64::MAX - 1, Some(0));
+    jumps(&rt, &program, u64::MAX, None);
     Ok(())
+}
+
+fn jumps(rt: &impl Abort, program: &Program, index: u64, wanted: Option<u64>) {
+    assert_eq!(rt; program.jump_at(index), wanted, "jump {index}");
+}
+
+fn refuses(rt: &impl Abort, alloc: Global, bytes: &[u8], place: u64) {
+    let refusal = program_of(alloc, bytes).err();
+    assert_eq!(rt; refusal, Some(ProgramRefusal::NotProgram { place }));
+}
+
+// The blob with another last byte.
+fn with_spare_bits(last: u8) -> [u8; 15] {
+    let mut blob = BLOB;
+    blob[14] = last;
+    blob
+}
+
+// The blob and one byte more.
+fn longer() -> [u8; 16] {
+    let mut longer = [0; 16];
+    longer[..15].copy_from_slice(&BLOB);
+    longer
 }
 
 #[test]
 fn other_bytes_are_refused_where_a_field_does_not_spell(rt: HostRuntime) {
-    let mut spare = BLOB;
-    spare[14] = 0x05;
-    let mut longer = [0; 16];
-    longer[..15].copy_from_slice(&BLOB);
+    let spare = with_spare_bits(0x05);
+    let longer = longer();
     let table: [(&[u8], u64); 12] = [
         (&[], 0),
         (&[0x80], 0),
@@ -113,13 +170,19 @@ fn other_bytes_are_refused_where_a_field_does_not_spell(rt: HostRuntime) {
         ),
     ];
     for (bytes, place) in table {
-        let refusal = Program::deblob(rt.alloc(), bytes).err();
-        assert_eq!(rt; refusal, Some(ProgramRefusal::NotProgram { place }));
+        refuses(&rt, rt.alloc(), bytes, place);
     }
 }
 
+fn is_spelled(rt: &impl Abort, alloc: Global, blob: &[u8]) -> Result<(), ProgramRefusal> {
+    let program = program_of(alloc, blob)?;
+    let spelled = program.spell()?;
+    assert!(rt; spelled.as_slice() == blob);
+    Ok(())
+}
+
 #[test]
-fn a_program_is_spelled_by_its_blob(rt: HostRuntime) -> Result<(), Fail> {
+fn a_program_is_spelled_by_its_blob(rt: HostRuntime) -> Result<(), ProgramRefusal> {
     let table: [&[u8]; 4] = [
         &[0x00, 0x08, 0x00],
         &BLOB,
@@ -131,9 +194,7 @@ fn a_program_is_spelled_by_its_blob(rt: HostRuntime) -> Result<(), Fail> {
         ],
     ];
     for bytes in table {
-        let program = Program::deblob(rt.alloc(), bytes).ok().ok_or("a blob")?;
-        let spelled = program.spell()?;
-        assert!(rt; spelled.as_slice() == bytes);
+        is_spelled(&rt, rt.alloc(), bytes)?;
     }
     Ok(())
 }

@@ -1,7 +1,8 @@
 //! Opcodes and arguments, instruction by instruction, as a reader of the tables would write them out.
+ghost use Rattle.std.specs.Prelude.{◌≤◌, ◌<◌, length};
+
 use pvm_isa::*;
 use std::process::Abort;
-use std::test::*;
 
 fn stands(rt: &impl Abort, number: u8, name: &str, op: Op, ends: bool) {
     assert_eq!(rt; op_of(number), Some(op), "number {number}");
@@ -31,11 +32,15 @@ fn numbers_and_names_stand_for_opcodes(rt: HostRuntime) {
     stands(&rt, 230, "min_u", Op::MinU, false);
 }
 
+fn stands_for_none(rt: &impl Abort, number: u8) {
+    assert_eq!(rt; op_of(number), None, "number {number}");
+    assert_eq!(rt; op_or_trap(number), Op::Trap, "number {number}");
+}
+
 #[test]
 fn other_numbers_and_names_stand_for_none(rt: HostRuntime) {
     for number in [2, 9, 34, 63, 91, 112, 162, 176, 181, 231, 255] {
-        assert_eq!(rt; op_of(number), None, "number {number}");
-        assert_eq!(rt; op_or_trap(number), Op::Trap, "number {number}");
+        stands_for_none(&rt, number);
     }
     for name in [
         "",
@@ -51,6 +56,45 @@ fn other_numbers_and_names_stand_for_none(rt: HostRuntime) {
 }
 
 type Row<'a> = (Op, &'a [u8], u64, u8, (u8, u8, u8), u64, u64, Option<u64>);
+
+// The arguments by the whole code, and by the window of the code that their form takes.
+fn stand_so(rt: &impl Abort, (op, code, pc, skip, (a, b, d), x, y, target): Row<'_>) {
+    assert!(rt; pc < 16 && pc < code.len() as u64 && skip <= 24);
+    let wanted = Args {
+        a,
+        b,
+        d,
+        x,
+        y,
+        target,
+    };
+    assert_eq!(rt;
+        args_of(op, code, pc, skip),
+        wanted,
+        "{} at {pc}",
+        name_of(op)
+    );
+    if let Some(args) = args_in_window(op, code, pc, skip) {
+        assert_eq!(rt; args, wanted, "{} in a window", name_of(op));
+    }
+}
+
+fn args_in_window(op: Op, code: &[u8], pc: u64, skip: u8) -> Option<Args>
+    requires within { pc < length code.now }
+    requires low { pc < 16 }
+    requires short { skip ≤ 24 }
+{
+    let bytes = code_window(code, pc);
+    match form_of(op) {
+        Form::F6 => Some(register_and_immediate_in(bytes, skip)),
+        Form::F8 => Some(register_immediate_and_offset_in(code, bytes, pc, skip)),
+        Form::F9 => Some(two_registers_in(bytes)),
+        Form::F10 => Some(two_registers_and_immediate_in(bytes, skip)),
+        Form::F11 => Some(two_registers_and_offset_in(bytes, pc, skip)),
+        Form::F13 => Some(three_registers_in(bytes)),
+        _ => None,
+    }
+}
 
 #[test]
 fn arguments_stand_where_their_form_says(rt: HostRuntime) {
@@ -263,32 +307,7 @@ fn arguments_stand_where_their_form_says(rt: HostRuntime) {
         (Op::Add64, b"\xc8\x5b\x13", 0, 2, (11, 5, 12), 0, 0, None),
         (Op::Add64, b"\xc8\x0f\x0c", 0, 2, (12, 0, 12), 0, 0, None),
     ];
-    for (op, code, pc, skip, (a, b, d), x, y, target) in table {
-        assert!(rt; pc < 16 && pc < code.len() as u64 && skip <= 24);
-        let args = Args {
-            a,
-            b,
-            d,
-            x,
-            y,
-            target,
-        };
-        assert_eq!(rt;
-            args_of(op, code, pc, skip),
-            args,
-            "{} at {pc}",
-            name_of(op)
-        );
-        let bytes = code_window(code, pc);
-        let by_window = match form_of(op) {
-            Form::F6 => register_and_immediate_in(bytes, skip),
-            Form::F8 => register_immediate_and_offset_in(code, bytes, pc, skip),
-            Form::F9 => two_registers_in(bytes),
-            Form::F10 => two_registers_and_immediate_in(bytes, skip),
-            Form::F11 => two_registers_and_offset_in(bytes, pc, skip),
-            Form::F13 => three_registers_in(bytes),
-            _ => args,
-        };
-        assert_eq!(rt; by_window, args, "{} in a window", name_of(op));
+    for row in table {
+        stand_so(&rt, row);
     }
 }

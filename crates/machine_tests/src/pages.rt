@@ -1,13 +1,12 @@
 //! Loads, stores and pages by hand.
-ghost use Rattle.std.specs.Prelude.{◌≤◌, ◌<◌};
+ghost use Rattle.std.specs.Prelude.{◌+◌, ◌≤◌, ◌<◌, ◌^◌};
 
 use paged_memory::{Access, Memory, Rights, StoreRefusal};
-use std::alloc::Global;
+use std::alloc::{AllocError, Global};
 use std::process::Abort;
-use std::test::Fail;
 
 // Pages 16 (from 65,536 on) and on, which may be written.
-fn pages(alloc: Global, count: u32) -> Result<Memory, Fail>
+fn pages(alloc: Global, count: u32) -> Result<Memory, AllocError>
     requires { count ≤ 1000 }
 {
     let mut memory = Memory::new(alloc);
@@ -15,30 +14,73 @@ fn pages(alloc: Global, count: u32) -> Result<Memory, Fail>
     Ok(memory)
 }
 
-fn load(rt: &impl Abort, memory: &Memory, addr: u32, width: u8) -> Result<u64, Access> {
+// Pages with these rights, whose bytes become 0.
+fn set(memory: &mut Memory, first: u32, count: u32, rights: Rights) -> Result<(), AllocError>
+    requires low { 16 ≤ first }
+    requires high { first + count ≤ 2 ^ 20 }
+{
+    memory.set_pages(first, count, rights, false)
+}
+
+fn lift(memory: &mut Memory, first: u32, count: u32) -> Result<(), AllocError>
+    requires low { 16 ≤ first }
+    requires high { first + count ≤ 2 ^ 20 }
+{
+    memory.lift_pages(first, count)
+}
+
+// Lets a page be read alone, and keeps its bytes.
+fn seal(rt: &impl Abort, memory: &mut Memory, page: u32) -> Result<(), AllocError>
+    requires low { 16 ≤ page }
+    requires high { page < 1000 }
+{
+    assert!(rt; memory.rights(page).reaches(Rights::Read));
+    memory.set_pages(page, 1, Rights::Read, true)
+}
+
+// A load of 1, 2, 4 or 8 bytes answers so.
+fn loads(rt: &impl Abort, memory: &Memory, addr: u32, width: u8, wanted: Result<u64, Access>) {
     assert!(rt; width == 1 || width == 2 || width == 4 || width == 8);
-    memory.load(addr, width)
+    assert_eq!(rt; memory.load(addr, width), wanted, "{width} bytes at {addr}");
+}
+
+// A store of 1, 2, 4 or 8 bytes is made.
+fn stores(rt: &impl Abort, memory: &mut Memory, addr: u32, width: u8, value: u64) {
+    assert!(rt; width == 1 || width == 2 || width == 4 || width == 8);
+    assert_eq!(rt;
+        memory.store(addr, width, value),
+        Ok(()),
+        "{width} bytes at {addr}"
+    );
+}
+
+// A store of 1, 2, 4 or 8 bytes is refused so.
+fn refuses(rt: &impl Abort, memory: &mut Memory, addr: u32, width: u8, value: u64, wanted: Access) {
+    assert!(rt; width == 1 || width == 2 || width == 4 || width == 8);
+    let end = memory.store(addr, width, value);
+    assert_eq!(rt;
+        end,
+        Err(StoreRefusal::Access(wanted)),
+        "{width} bytes at {addr}"
+    );
 }
 
 #[test]
-fn a_refused_store_changes_no_byte(rt: HostRuntime) -> Result<(), Fail> {
+fn a_refused_store_changes_no_byte(rt: HostRuntime) -> Result<(), AllocError> {
     let mut memory = pages(rt.alloc(), 1)?;
-    memory.store(69_624, 8, 0x0102_0304_0506_0708)?;
-    let refused: [(u32, Access); 2] = [(69_628, Access::Fault(69_632)), (65_532, Access::Low)];
-    for (addr, access) in refused {
-        let end = memory.store(addr, 8, u64::MAX);
-        assert_eq!(rt; end, Err(StoreRefusal::Access(access)), "at {addr}");
-    }
-    assert_eq!(rt; memory.load(69_624, 8), Ok(0x0102_0304_0506_0708));
-    assert_eq!(rt; memory.load(65_536, 8), Ok(0));
-    assert_eq!(rt; memory.store(65_536, 8, 258), Ok(()));
-    assert_eq!(rt; memory.load(65_536, 2), Ok(258));
-    assert_eq!(rt; memory.load(65_537, 1), Ok(1));
+    stores(&rt, &mut memory, 69_624, 8, 0x0102_0304_0506_0708);
+    refuses(&rt, &mut memory, 69_628, 8, u64::MAX, Access::Fault(69_632));
+    refuses(&rt, &mut memory, 65_532, 8, u64::MAX, Access::Low);
+    loads(&rt, &memory, 69_624, 8, Ok(0x0102_0304_0506_0708));
+    loads(&rt, &memory, 65_536, 8, Ok(0));
+    stores(&rt, &mut memory, 65_536, 8, 258);
+    loads(&rt, &memory, 65_536, 2, Ok(258));
+    loads(&rt, &memory, 65_537, 1, Ok(1));
     Ok(())
 }
 
 #[test]
-fn the_least_forbidden_byte_decides(rt: HostRuntime) -> Result<(), Fail> {
+fn the_least_forbidden_byte_decides(rt: HostRuntime) -> Result<(), AllocError> {
     let mut memory = Memory::new(rt.alloc());
     let none: [(u32, u8, Access); 7] = [
         (4_294_967_294, 4, Access::Low),
@@ -50,23 +92,20 @@ fn the_least_forbidden_byte_decides(rt: HostRuntime) -> Result<(), Fail> {
         (4_294_967_289, 8, Access::Low),
     ];
     for (addr, width, access) in none {
-        assert_eq!(rt; load(&rt, &memory, addr, width), Err(access), "at {addr}");
+        loads(&rt, &memory, addr, width, Err(access));
     }
-    memory.set_pages(1_048_575, 1, Rights::Read, false)?;
-    assert_eq!(rt; memory.load(4_294_967_294, 2), Ok(0));
-    assert_eq!(rt; memory.load(4_294_967_295, 2), Err(Access::Low));
-    let end = memory.store(4_294_967_294, 2, 1);
-    assert_eq!(rt;
-        end,
-        Err(StoreRefusal::Access(Access::Fault(4_294_963_200)))
-    );
+    set(&mut memory, 1_048_575, 1, Rights::Read)?;
+    loads(&rt, &memory, 4_294_967_294, 2, Ok(0));
+    loads(&rt, &memory, 4_294_967_295, 2, Err(Access::Low));
+    let fault = Access::Fault(4_294_963_200);
+    refuses(&rt, &mut memory, 4_294_967_294, 2, 1, fault);
     Ok(())
 }
 
 #[test]
-fn a_store_goes_over_two_pages(rt: HostRuntime) -> Result<(), Fail> {
+fn a_store_goes_over_two_pages(rt: HostRuntime) -> Result<(), AllocError> {
     let mut memory = pages(rt.alloc(), 2)?;
-    memory.store(69_630, 4, 0x0403_0201)?;
+    stores(&rt, &mut memory, 69_630, 4, 0x0403_0201);
     let rows: [(u32, u8, u64); 5] = [
         (69_630, 4, 0x0403_0201),
         (69_632, 2, 0x0403),
@@ -75,19 +114,19 @@ fn a_store_goes_over_two_pages(rt: HostRuntime) -> Result<(), Fail> {
         (69_634, 1, 0),
     ];
     for (addr, width, value) in rows {
-        assert_eq!(rt; load(&rt, &memory, addr, width), Ok(value), "at {addr}");
+        loads(&rt, &memory, addr, width, Ok(value));
     }
     Ok(())
 }
 
 #[test]
-fn lifted_pages_keep_what_they_have(rt: HostRuntime) -> Result<(), Fail> {
+fn lifted_pages_keep_what_they_have(rt: HostRuntime) -> Result<(), AllocError> {
     let mut memory = pages(rt.alloc(), 1)?;
-    memory.store(69_624, 8, 77)?;
-    memory.lift_pages(16, 2)?;
-    assert_eq!(rt; memory.load(69_624, 8), Ok(77));
-    assert_eq!(rt; memory.load(69_632, 8), Ok(0));
-    assert_eq!(rt; memory.store(69_632, 1, 9), Ok(()));
+    stores(&rt, &mut memory, 69_624, 8, 77);
+    lift(&mut memory, 16, 2)?;
+    loads(&rt, &memory, 69_624, 8, Ok(77));
+    loads(&rt, &memory, 69_632, 8, Ok(0));
+    stores(&rt, &mut memory, 69_632, 1, 9);
     let rows = [
         (15, Rights::No),
         (16, Rights::Write),
@@ -100,39 +139,28 @@ fn lifted_pages_keep_what_they_have(rt: HostRuntime) -> Result<(), Fail> {
     Ok(())
 }
 
-// Lets a page be read alone, and keeps its bytes.
-fn seal(rt: &impl Abort, memory: &mut Memory, page: u32) -> Result<(), Fail>
-    requires low { 16 ≤ page }
-    requires high { page < 1000 }
-{
-    assert!(rt; memory.rights(page).reaches(Rights::Read));
-    memory.set_pages(page, 1, Rights::Read, true)?;
-    Ok(())
-}
-
 #[test]
-fn bytes_are_kept_where_that_is_asked(rt: HostRuntime) -> Result<(), Fail> {
+fn bytes_are_kept_where_that_is_asked(rt: HostRuntime) -> Result<(), AllocError> {
     let mut memory = pages(rt.alloc(), 2)?;
-    memory.store(65_536, 4, 77)?;
-    memory.store(69_632, 4, 88)?;
+    stores(&rt, &mut memory, 65_536, 4, 77);
+    stores(&rt, &mut memory, 69_632, 4, 88);
     seal(&rt, &mut memory, 16)?;
-    let end = memory.store(65_536, 4, 99);
-    assert_eq!(rt; end, Err(StoreRefusal::Access(Access::Fault(65_536))));
-    assert_eq!(rt; memory.load(65_536, 4), Ok(77));
-    memory.set_pages(16, 1, Rights::Write, false)?;
-    assert_eq!(rt; memory.load(65_536, 4), Ok(0));
-    assert_eq!(rt; memory.load(69_632, 4), Ok(88));
-    memory.set_pages(17, 1, Rights::No, false)?;
-    assert_eq!(rt; memory.load(69_632, 4), Err(Access::Fault(69_632)));
-    memory.lift_pages(17, 1)?;
-    assert_eq!(rt; memory.load(69_632, 4), Ok(0));
+    refuses(&rt, &mut memory, 65_536, 4, 99, Access::Fault(65_536));
+    loads(&rt, &memory, 65_536, 4, Ok(77));
+    set(&mut memory, 16, 1, Rights::Write)?;
+    loads(&rt, &memory, 65_536, 4, Ok(0));
+    loads(&rt, &memory, 69_632, 4, Ok(88));
+    set(&mut memory, 17, 1, Rights::No)?;
+    loads(&rt, &memory, 69_632, 4, Err(Access::Fault(69_632)));
+    lift(&mut memory, 17, 1)?;
+    loads(&rt, &memory, 69_632, 4, Ok(0));
     Ok(())
 }
 
 #[test]
-fn ranges_end_at_the_last_address(rt: HostRuntime) -> Result<(), Fail> {
+fn ranges_end_at_the_last_address(rt: HostRuntime) -> Result<(), AllocError> {
     let mut memory = Memory::new(rt.alloc());
-    memory.set_pages(1_048_575, 1, Rights::Read, false)?;
+    set(&mut memory, 1_048_575, 1, Rights::Read)?;
     let rows: [(u64, u64, bool); 7] = [
         (4_294_963_200, 4096, true),
         (4_294_963_200, 4097, false),
@@ -149,24 +177,48 @@ fn ranges_end_at_the_last_address(rt: HostRuntime) -> Result<(), Fail> {
     Ok(())
 }
 
-#[test]
-fn bytes_are_copied_in_and_out(rt: HostRuntime) -> Result<(), Fail> {
-    let mut memory = pages(rt.alloc(), 3)?;
-    let mut bytes = [0u8; 5000];
-    for i in 0..5000 {
-        bytes[i] = (i % 251) as u8;
+// Byte i is i modulo 251.
+fn counted<const N: usize>() -> [u8; N] {
+    let mut bytes = [0; N];
+    for (i, byte) in bytes.iter_mut().enumerate() {
+        *byte = (i % 251) as u8;
     }
-    assert!(rt; memory.writable(69_000, 5000));
-    memory.copy_in(69_000, &bytes)?;
+    bytes
+}
+
+fn copy_in(
+    rt: &impl Abort,
+    memory: &mut Memory,
+    addr: u64,
+    bytes: &[u8],
+) -> Result<(), AllocError> {
+    assert!(rt; memory.writable(addr, bytes.len() as u64));
+    memory.copy_in(addr, bytes)
+}
+
+fn copy_out(rt: &impl Abort, memory: &Memory, addr: u64, bytes: &mut [u8]) {
+    assert!(rt; memory.readable(addr, bytes.len() as u64));
+    memory.copy_out(addr, bytes);
+}
+
+// Fills bytes that may be read and not written.
+fn fill(rt: &impl Abort, memory: &mut Memory, addr: u64, bytes: &[u8]) -> Result<(), AllocError> {
+    assert!(rt; !memory.writable(addr, bytes.len() as u64));
+    assert!(rt; memory.readable(addr, bytes.len() as u64));
+    memory.fill(addr, bytes)
+}
+
+#[test]
+fn bytes_are_copied_in_and_out(rt: HostRuntime) -> Result<(), AllocError> {
+    let mut memory = pages(rt.alloc(), 3)?;
+    let bytes: [u8; 5000] = counted();
+    copy_in(&rt, &mut memory, 69_000, &bytes)?;
     let mut out = [7u8; 5002];
-    assert!(rt; memory.readable(68_999, 5002));
-    memory.copy_out(68_999, &mut out);
+    copy_out(&rt, &memory, 68_999, &mut out);
     assert_eq!(rt; &out[1..5001], bytes.as_slice());
     assert_eq!(rt; [out[0], out[5001]], [0, 0]);
     seal(&rt, &mut memory, 17)?;
-    assert!(rt; !memory.writable(69_631, 2));
-    assert!(rt; memory.readable(69_631, 2));
-    memory.fill(69_631, &[200, 201])?;
-    assert_eq!(rt; memory.load(69_630, 4), Ok(0x83c9_c880));
+    fill(&rt, &mut memory, 69_631, &[200, 201])?;
+    loads(&rt, &memory, 69_630, 4, Ok(0x83c9_c880));
     Ok(())
 }

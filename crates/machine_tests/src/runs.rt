@@ -1,9 +1,10 @@
 //! Runs of whole programs.
-use blob_decode::Program;
+use blob_decode::{Program, ProgramRefusal};
 use paged_memory::Rights;
 use pvm_isa::Op;
 use pvm_step::{Exit, Heap, Machine, Progress};
-use std::alloc::Global;
+use std::alloc::{AllocError, Global};
+use std::process::Abort;
 use std::rc::Rc;
 use std::test::Fail;
 
@@ -25,9 +26,61 @@ const FIVE_PAGES: [u8; 36] = [
     0x51, 0x11, 0x11, 0x11,
 ];
 
-fn machine(alloc: Global, blob: &[u8], gas: u64) -> Result<Machine, Fail> {
+fn shared(alloc: Global, program: Program) -> Result<Rc<Program>, AllocError> {
+    let shared = Rc::new(alloc, program)?;
+    Ok(shared)
+}
+
+fn machine(alloc: Global, blob: &[u8], gas: u64) -> Result<Machine, ProgramRefusal> {
     let program = Program::deblob(alloc, blob)?;
-    Ok(Machine::raw(alloc, Rc::new(alloc, program)?, 0, gas))
+    let program = shared(alloc, program)?;
+    Ok(Machine::raw(alloc, program, 0, gas))
+}
+
+fn with_heap(alloc: Global, blob: &[u8], gas: u64, heap: Heap) -> Result<Machine, ProgramRefusal> {
+    let mut machine = machine(alloc, blob, gas)?;
+    machine.heap = heap;
+    Ok(machine)
+}
+
+// A run of so many steps at most goes so.
+fn runs(
+    rt: &impl Abort,
+    machine: &mut Machine,
+    fuel: u64,
+    wanted: Progress,
+) -> Result<(), AllocError> {
+    let progress = machine.run(fuel)?;
+    assert_eq!(rt; progress, wanted);
+    Ok(())
+}
+
+// The machine is at this place and has so much gas left.
+fn is_at(rt: &impl Abort, machine: &Machine, pc: u64, left: u64) {
+    assert_eq!(rt; (machine.pc, machine.ledger.left()), (pc, left));
+}
+
+fn has_heap(rt: &impl Abort, machine: &Machine, next: u64, end: u64) {
+    assert_eq!(rt; (machine.heap.next(), machine.heap.end()), (next, end));
+}
+
+fn has_registers(rt: &impl Abort, machine: &Machine, wanted: &[(usize, u64)]) {
+    for &(register, value) in wanted {
+        assert!(rt; register < 13);
+        assert_eq!(rt; machine.registers[register], value, "register {register}");
+    }
+}
+
+fn ends(
+    rt: &impl Abort,
+    alloc: Global,
+    (blob, gas, exit, pc, left): (&[u8], u64, Exit, u64, u64),
+) -> Result<(), ProgramRefusal> {
+    let mut machine = machine(alloc, blob, gas)?;
+    runs(rt, &mut machine, u64::MAX, Progress::Ended(exit))?;
+    is_at(rt, &machine, pc, left);
+    has_registers(rt, &machine, &[(2, 0)]);
+    Ok(())
 }
 
 #[test]
@@ -45,12 +98,8 @@ fn runs_end_so(rt: HostRuntime) -> Result<(), Fail> {
         (&[0, 0, 2, 0x0a, 7, 1], 10, Exit::Host(7), 0, 9),
         (&[0, 0, 2, 0x65, 0x82, 1], 10, Exit::Panic, 2, 8),
     ];
-    for (blob, gas, exit, pc, left) in rows {
-        let mut machine = machine(rt.alloc(), blob, gas)?;
-        let progress = machine.run(u64::MAX)?;
-        assert_eq!(rt; progress, Progress::Ended(exit));
-        assert_eq!(rt; (machine.pc, machine.ledger.left()), (pc, left));
-        assert_eq!(rt; machine.registers[2], 0);
+    for row in rows {
+        ends(&rt, rt.alloc(), row)?;
     }
     Ok(())
 }
@@ -58,26 +107,43 @@ fn runs_end_so(rt: HostRuntime) -> Result<(), Fail> {
 #[test]
 fn a_run_pauses_and_goes_on(rt: HostRuntime) -> Result<(), Fail> {
     let mut paused = machine(rt.alloc(), &HALTS, 100)?;
-    assert_eq!(rt; paused.run(2)?, Progress::Paused);
-    assert_eq!(rt; (paused.pc, paused.ledger.left()), (8, 98));
-    assert_eq!(rt; paused.run(2)?, Progress::Ended(Exit::Halt));
-    assert_eq!(rt; paused.registers[0], 18_446_744_073_709_486_080);
-    assert_eq!(rt; paused.registers[7], 42);
+    runs(&rt, &mut paused, 2, Progress::Paused)?;
+    is_at(&rt, &paused, 8, 98);
+    runs(&rt, &mut paused, 2, Progress::Ended(Exit::Halt))?;
+    has_registers(&rt, &paused, &[(0, 18_446_744_073_709_486_080), (7, 42)]);
     let mut spent = machine(rt.alloc(), &HALTS, 2)?;
-    assert_eq!(rt; spent.run(2)?, Progress::Paused);
-    assert_eq!(rt; spent.run(1)?, Progress::Ended(Exit::OutOfGas));
-    assert_eq!(rt; (spent.pc, spent.ledger.left()), (8, 0));
+    runs(&rt, &mut spent, 2, Progress::Paused)?;
+    runs(&rt, &mut spent, 1, Progress::Ended(Exit::OutOfGas))?;
+    is_at(&rt, &spent, 8, 0);
+    Ok(())
+}
+
+fn has_rights(rt: &impl Abort, machine: &Machine, page: u32, rights: Rights) {
+    assert_eq!(rt; machine.memory.rights(page), rights, "of page {page}");
+}
+
+// The output is what the registers 7 and 8 say: its place and its length.
+fn gives_output(
+    rt: &impl Abort,
+    machine: &mut Machine,
+    (place, length): (u64, u64),
+    wanted: &[u8],
+) -> Result<(), AllocError> {
+    machine.registers[7] = place;
+    machine.registers[8] = length;
+    let output = machine.output()?;
+    assert_eq!(rt; output.as_slice(), wanted);
     Ok(())
 }
 
 #[test]
 fn the_heap_grows_by_pages(rt: HostRuntime) -> Result<(), Fail> {
-    let mut grown = machine(rt.alloc(), &GROWS, 10)?;
-    grown.heap = Heap::new(69_630, 1 << 20);
-    assert_eq!(rt; grown.run(10)?, Progress::Ended(Exit::Panic));
-    assert_eq!(rt; (grown.pc, grown.ledger.left()), (10, 5));
-    assert_eq!(rt; (grown.registers[1], grown.registers[2]), (69_630, 5000));
-    assert_eq!(rt; (grown.heap.next(), grown.heap.end()), (74_630, 1 << 20));
+    let heap = Heap::new(69_630, 1 << 20);
+    let mut grown = with_heap(rt.alloc(), &GROWS, 10, heap)?;
+    runs(&rt, &mut grown, 10, Progress::Ended(Exit::Panic))?;
+    is_at(&rt, &grown, 10, 5);
+    has_registers(&rt, &grown, &[(1, 69_630), (2, 5000)]);
+    has_heap(&rt, &grown, 74_630, 1 << 20);
     let rights = [
         (15, Rights::No),
         (16, Rights::Write),
@@ -86,40 +152,48 @@ fn the_heap_grows_by_pages(rt: HostRuntime) -> Result<(), Fail> {
         (19, Rights::No),
     ];
     for (page, right) in rights {
-        assert_eq!(rt; grown.memory.rights(page), right);
+        has_rights(&rt, &grown, page, right);
     }
-    grown.registers[7] = 69_630;
-    grown.registers[8] = 4;
-    assert_eq!(rt; grown.output()?.as_slice(), [0x88, 0x13, 0, 0].as_slice());
-    grown.registers[8] = 1 << 40;
-    assert!(rt; grown.output()?.is_empty());
-    let mut full = machine(rt.alloc(), &GROWS, 10)?;
-    full.heap = Heap::new(65_536, 70_535);
-    assert_eq!(rt; full.run(2)?, Progress::Paused);
-    assert_eq!(rt; (full.registers[1], full.heap.next()), (0, 65_536));
-    assert_eq!(rt; full.memory.rights(16), Rights::No);
+    gives_output(&rt, &mut grown, (69_630, 4), &[0x88, 0x13, 0, 0])?;
+    gives_output(&rt, &mut grown, (69_630, 1 << 40), &[])?;
+    let heap = Heap::new(65_536, 70_535);
+    let mut full = with_heap(rt.alloc(), &GROWS, 10, heap)?;
+    runs(&rt, &mut full, 2, Progress::Paused)?;
+    has_registers(&rt, &full, &[(1, 0)]);
+    has_heap(&rt, &full, 65_536, 70_535);
+    has_rights(&rt, &full, 16, Rights::No);
     Ok(())
+}
+
+fn steps(rt: &impl Abort, machine: &mut Machine, wanted: Option<Exit>) -> Result<(), AllocError> {
+    let exit = machine.step()?;
+    assert_eq!(rt; exit, wanted);
+    Ok(())
+}
+
+fn pass_ecalli(machine: &mut Machine) {
+    if let Op::Ecalli = machine.program.op_at(machine.pc) {
+        machine.pass_ecalli();
+    }
 }
 
 #[test]
 fn a_host_call_is_passed(rt: HostRuntime) -> Result<(), Fail> {
     let mut machine = machine(rt.alloc(), &[0, 0, 2, 0x0a, 7, 1], 10)?;
-    assert_eq!(rt; machine.step()?, Some(Exit::Host(7)));
-    if let Op::Ecalli = machine.program.op_at(machine.pc) {
-        machine.pass_ecalli();
-    }
-    assert_eq!(rt; (machine.pc, machine.ledger.left()), (2, 9));
+    steps(&rt, &mut machine, Some(Exit::Host(7)))?;
+    pass_ecalli(&mut machine);
+    is_at(&rt, &machine, 2, 9);
     Ok(())
 }
 
 // tests/failing-stores runs it with each allocation failing in turn.
 #[test]
 fn five_pages_are_stored_to(rt: HostRuntime) -> Result<(), Fail> {
-    let mut grown = machine(rt.alloc(), &FIVE_PAGES, 100)?;
-    grown.heap = Heap::new(65_536, 1 << 20);
-    assert_eq!(rt; grown.run(100)?, Progress::Ended(Exit::Panic));
-    assert_eq!(rt; (grown.pc, grown.ledger.left()), (28, 91));
-    assert_eq!(rt; (grown.registers[1], grown.registers[2]), (65_536, 0));
-    assert_eq!(rt; grown.heap.next(), 86_016);
+    let heap = Heap::new(65_536, 1 << 20);
+    let mut grown = with_heap(rt.alloc(), &FIVE_PAGES, 100, heap)?;
+    runs(&rt, &mut grown, 100, Progress::Ended(Exit::Panic))?;
+    is_at(&rt, &grown, 28, 91);
+    has_registers(&rt, &grown, &[(1, 65_536), (2, 0)]);
+    has_heap(&rt, &grown, 86_016, 1 << 20);
     Ok(())
 }
