@@ -2,138 +2,198 @@
 use jam_outside::{
     MemSink, MemVault, OutsideError, ReadRefusal, Sink, SureSink, SureVault, Vault, read_whole,
 };
-use std::alloc::Global;
+use std::alloc::{AllocError, Global};
 use std::collections::BTreeMap;
+use std::process::Abort;
 use std::test::Fail;
 
-fn one_file(alloc: Global, name: &str, bytes: &[u8]) -> Result<BTreeMap<String, Vec<u8>>, Fail> {
-    let mut files = BTreeMap::new(alloc);
-    files.insert(
-        String::from_str(alloc, name)?,
-        Vec::from_slice(alloc, bytes)?,
-    )?;
-    Ok(files)
+fn count_up(bytes: &mut [u8]) {
+    for (i, byte) in bytes.iter_mut().enumerate() {
+        *byte = (i % 251) as u8;
+    }
+}
+
+// Byte i is i modulo 251.
+fn long_bytes(alloc: Global, length: usize) -> Result<Vec<u8>, AllocError> {
+    let mut bytes = vec![in alloc; 0u8; length]?;
+    count_up(&mut bytes);
+    Ok(bytes)
+}
+
+// A whole read from memory that gives these bytes.
+fn reads<V: Vault>(
+    rt: &impl Abort,
+    alloc: Global,
+    vault: &mut V,
+    (name, limit): (&str, u32),
+    wanted: &[u8],
+) -> Result<(), ReadRefusal> {
+    let bytes = read_whole(alloc, vault, name, u64::from(limit))?;
+    assert_eq!(rt; bytes.as_slice(), wanted, "{name} within {limit}");
+    Ok(())
+}
+
+// A whole read that fails so.
+fn refuses<V: Vault>(
+    rt: &impl Abort,
+    alloc: Global,
+    vault: &mut V,
+    (name, limit): (&str, u32),
+    wanted: ReadRefusal,
+) {
+    let refused = read_whole(alloc, vault, name, u64::from(limit)).err();
+    assert!(rt; refused == Some(wanted), "{name} within {limit}");
 }
 
 #[test]
 fn a_whole_file_is_read_up_to_the_limit(rt: HostRuntime) -> Result<(), Fail> {
     let alloc = rt.alloc();
     // More than one piece.
-    let long: Vec<u8> = (0..70_000u32).map(|i| (i % 251) as u8).collect(alloc)?;
-    let mut vault = SureVault::new(alloc, one_file(alloc, "long", &long)?);
-    for limit in [70_000, 70_001] {
-        let bytes = read_whole(alloc, &mut vault, "long", limit)?;
-        assert!(rt; bytes == long, "at {limit}");
-    }
-    for limit in [69_999, 0] {
-        let refused = read_whole(alloc, &mut vault, "long", limit);
-        assert!(rt; matches!(refused, Err(ReadRefusal::TooLong)), "at {limit}");
-    }
-    assert_eq!(rt; read_whole(alloc, &mut vault, "absent", 0)?.len(), 0);
-    vault.store("short", b"new")?;
-    assert_eq!(rt;
-        read_whole(alloc, &mut vault, "short", 3)?.as_slice(),
-        b"new".as_slice()
+    let long = long_bytes(alloc, 70_000)?;
+    let mut vault = SureVault::new(alloc, BTreeMap::new(alloc));
+    vault.store("long", &long)?;
+    reads(&rt, alloc, &mut vault, ("long", 70_000), &long)?;
+    reads(&rt, alloc, &mut vault, ("long", 70_001), &long)?;
+    refuses(
+        &rt,
+        alloc,
+        &mut vault,
+        ("long", 69_999),
+        ReadRefusal::TooLong,
     );
-    assert_eq!(rt; vault.stores, 1);
+    refuses(&rt, alloc, &mut vault, ("long", 0), ReadRefusal::TooLong);
+    reads(&rt, alloc, &mut vault, ("absent", 0), b"")?;
+    vault.store("short", b"new")?;
+    reads(&rt, alloc, &mut vault, ("short", 3), b"new")?;
+    // The long file was stored too.
+    assert_eq!(rt; vault.stores, 2);
     Ok(())
+}
+
+// So many reads failed, the last that of this name.
+fn read_faults_are(rt: &impl Abort, vault: &MemVault, faults: u64, failed: &str) {
+    assert_eq!(rt; vault.read_faults, faults);
+    assert_eq!(rt; vault.failed.as_str(), failed);
 }
 
 #[test]
 fn listed_reads_fail(rt: HostRuntime) -> Result<(), Fail> {
     let alloc = rt.alloc();
     let listed = Vec::from_slice(alloc, &[2])?;
-    let mut vault = MemVault::new(
-        alloc,
-        one_file(alloc, "a", &[1, 2, 3])?,
-        listed,
-        Vec::new(alloc),
-    );
+    let mut vault = MemVault::new(alloc, BTreeMap::new(alloc), listed, Vec::new(alloc));
+    vault.store("a", &[1, 2, 3])?;
+    refuses(&rt, alloc, &mut vault, ("a", 9), ReadRefusal::ReadFault);
+    read_faults_are(&rt, &vault, 1, "a");
     // A whole read that succeeds takes two reads, the second of which finds the end.
-    for (name, fails, faults, failed) in [
-        ("a", true, 1, "a"),
-        ("a", false, 1, "a"),
-        ("absent", true, 2, "absent"),
-        ("a", false, 2, "absent"),
-    ] {
-        match read_whole(alloc, &mut vault, name, 9) {
-            Ok(bytes) => assert!(rt;
-                !fails && bytes.as_slice() == [1, 2, 3].as_slice(),
-                "{name} after {faults}"
-            ),
-            Err(e) => assert!(rt;
-                fails && e == ReadRefusal::ReadFault,
-                "{name} after {faults}"
-            ),
-        }
-        assert_eq!(rt; vault.read_faults, faults);
-        assert!(rt; vault.failed.as_str() == failed);
-    }
+    reads(&rt, alloc, &mut vault, ("a", 9), &[1, 2, 3])?;
+    read_faults_are(&rt, &vault, 1, "a");
+    refuses(
+        &rt,
+        alloc,
+        &mut vault,
+        ("absent", 9),
+        ReadRefusal::ReadFault,
+    );
+    read_faults_are(&rt, &vault, 2, "absent");
+    reads(&rt, alloc, &mut vault, ("a", 9), &[1, 2, 3])?;
+    read_faults_are(&rt, &vault, 2, "absent");
     assert_eq!(rt; vault.reads, 7);
     let mut one = [0];
-    assert_eq!(rt; vault.read_at("a", 1, &mut one)?, 1);
+    assert_eq!(rt; vault.read_at("a", 1, &mut one), Ok(1));
     assert_eq!(rt; one[0], 2);
     Ok(())
 }
 
+// A vault of one long file, of which the read of this number fails.
+fn failing_read(alloc: Global, bytes: &[u8], read: u64) -> Result<MemVault, OutsideError> {
+    let listed = Vec::from_slice(alloc, &[read])?;
+    let mut vault = MemVault::new(alloc, BTreeMap::new(alloc), listed, Vec::new(alloc));
+    vault.store("long", bytes)?;
+    Ok(vault)
+}
+
+// The read of this number is from this place.
+fn reads_from(
+    rt: &impl Abort,
+    alloc: Global,
+    bytes: &[u8],
+    read: u64,
+    place: u64,
+) -> Result<(), OutsideError> {
+    let mut vault = failing_read(alloc, bytes, read)?;
+    refuses(
+        rt,
+        alloc,
+        &mut vault,
+        ("long", 70_000),
+        ReadRefusal::ReadFault,
+    );
+    assert_eq!(rt; vault.failed_place, place);
+    assert_eq!(rt; vault.reads, read);
+    Ok(())
+}
+
 #[test]
-fn a_whole_file_is_read_from_its_front_on(rt: HostRuntime) -> Result<(), Fail> {
+fn a_whole_file_is_read_from_its_front_on(rt: HostRuntime) -> Result<(), OutsideError> {
     let alloc = rt.alloc();
-    let long = vec![in alloc; 7u8; 70_000]?;
+    let long = long_bytes(alloc, 70_000)?;
     // Two pieces, and then the read that finds the end.
-    for (read, place) in [(1, 0), (2, 65_536), (3, 70_000)] {
-        let listed = Vec::from_slice(alloc, &[read])?;
-        let files = one_file(alloc, "long", &long)?;
-        let mut vault = MemVault::new(alloc, files, listed, Vec::new(alloc));
-        let refused = read_whole(alloc, &mut vault, "long", 70_000);
-        assert!(rt; matches!(refused, Err(ReadRefusal::ReadFault)), "at {read}");
-        assert_eq!(rt; vault.failed_place, place);
-        assert_eq!(rt; vault.reads, read);
-    }
+    reads_from(&rt, alloc, &long, 1, 0)?;
+    reads_from(&rt, alloc, &long, 2, 65_536)?;
+    reads_from(&rt, alloc, &long, 3, 70_000)?;
     Ok(())
 }
 
 #[test]
 fn a_listed_store_leaves_the_files(rt: HostRuntime) -> Result<(), Fail> {
     let alloc = rt.alloc();
-    let listed = Vec::from_slice(alloc, &[2])?;
-    let mut vault = MemVault::new(alloc, one_file(alloc, "a", &[1])?, Vec::new(alloc), listed);
+    let listed = Vec::from_slice(alloc, &[3])?;
+    let mut vault = MemVault::new(alloc, BTreeMap::new(alloc), Vec::new(alloc), listed);
+    vault.store("a", &[1])?;
     vault.store("b", &[4, 5])?;
     assert!(rt; matches!(vault.store("a", &[6]), Err(OutsideError::Failed)));
     assert_eq!(rt; vault.store_faults, 1);
     assert!(rt; vault.store_failed.as_str() == "a");
-    assert_eq!(rt;
-        read_whole(alloc, &mut vault, "a", 9)?.as_slice(),
-        [1].as_slice()
-    );
-    assert_eq!(rt;
-        read_whole(alloc, &mut vault, "b", 9)?.as_slice(),
-        [4, 5].as_slice()
-    );
+    reads(&rt, alloc, &mut vault, ("a", 9), &[1])?;
+    reads(&rt, alloc, &mut vault, ("b", 9), &[4, 5])?;
     vault.store("a", &[7])?;
-    assert_eq!(rt; vault.stores, 3);
-    assert_eq!(rt; vault.store_faults, 1);
-    assert_eq!(rt;
-        read_whole(alloc, &mut vault, "a", 9)?.as_slice(),
-        [7].as_slice()
+    assert_eq!(rt; (vault.stores, vault.store_faults), (4, 1));
+    reads(&rt, alloc, &mut vault, ("a", 9), &[7])?;
+    Ok(())
+}
+
+// Gives the bytes to both sinks, of which the second may fail.
+fn puts(
+    rt: &impl Abort,
+    sure: &mut SureSink,
+    failing: &mut MemSink,
+    bytes: &str,
+    fails: bool,
+) -> Result<(), OutsideError> {
+    sure.put(bytes.as_bytes())?;
+    let answer = failing.put(bytes.as_bytes());
+    assert!(rt;
+        matches!(answer, Err(OutsideError::Failed)) == fails,
+        "at {bytes}"
     );
     Ok(())
+}
+
+fn holds(rt: &impl Abort, bytes: &[u8], wanted: &[u8]) {
+    assert_eq!(rt; bytes, wanted);
 }
 
 #[test]
 fn sinks_keep_what_they_take(rt: HostRuntime) -> Result<(), Fail> {
     let alloc = rt.alloc();
+    let listed = Vec::from_slice(alloc, &[2])?;
     let mut sure = SureSink::new(alloc);
-    let mut failing = MemSink::new(alloc, Vec::from_slice(alloc, &[2])?);
-    for (bytes, fails) in [("ab", false), ("lost", true), ("", false), ("c", false)] {
-        sure.put(bytes.as_bytes())?;
-        let answer = failing.put(bytes.as_bytes());
-        assert!(rt;
-            matches!(answer, Err(OutsideError::Failed)) == fails,
-            "at {bytes}"
-        );
-    }
-    assert_eq!(rt; sure.bytes(), b"ablostc".as_slice());
-    assert_eq!(rt; failing.bytes(), b"abc".as_slice());
+    let mut failing = MemSink::new(alloc, listed);
+    puts(&rt, &mut sure, &mut failing, "ab", false)?;
+    puts(&rt, &mut sure, &mut failing, "lost", true)?;
+    puts(&rt, &mut sure, &mut failing, "", false)?;
+    puts(&rt, &mut sure, &mut failing, "c", false)?;
+    holds(&rt, sure.bytes(), b"ablostc");
+    holds(&rt, failing.bytes(), b"abc");
     Ok(())
 }

@@ -1,12 +1,18 @@
 //! Digests as coreutils' `b2sum -l 256` gives them.
+ghost use Rattle.std.specs.Prelude.{◌<◌};
+
 use blake2b_core::{Hasher, digest, digest_of_pieces};
+
+fn count_up(bytes: &mut [u8]) {
+    for (i, byte) in bytes.iter_mut().enumerate() {
+        *byte = (i % 251) as u8;
+    }
+}
 
 // Byte i is i modulo 251.
 fn message() -> [u8; 1000] {
     let mut bytes = [0; 1000];
-    for i in 0..1000 {
-        bytes[i] = (i % 251) as u8;
-    }
+    count_up(&mut bytes);
     bytes
 }
 
@@ -73,34 +79,43 @@ fn digests_are_as_known(rt: HostRuntime) {
     }
 }
 
+// Hashes the bytes piece by piece, and gives their count too.
+fn digest_in_pieces(bytes: &[u8], size: usize) -> (u64, [u8; 32])
+    requires { 0 < size }
+{
+    let mut hasher = Hasher::new();
+    for piece in bytes.chunks(size) {
+        // The sum of the counts fits.
+        if hasher.count() < 400 && piece.len() <= 400 {
+            hasher.update(piece);
+        }
+    }
+    (hasher.count(), hasher.finish())
+}
+
 #[test]
 fn pieces_of_each_size_have_one_digest(rt: HostRuntime) {
     let bytes = message();
     let (front, _) = bytes.split_at(400);
     let whole = digest(front);
     for size in 1..201 {
-        let mut hasher = Hasher::new();
-        for piece in front.chunks(size) {
-            // The sum of the counts fits.
-            if hasher.count() < 400 {
-                hasher.update(piece);
-            }
-        }
-        assert_eq!(rt; hasher.count(), 400, "in pieces of {size}");
-        assert_eq!(rt;
-            hasher.finish().as_slice(),
-            whole.as_slice(),
-            "in pieces of {size}"
-        );
+        let (count, pieces) = digest_in_pieces(front, size);
+        assert_eq!(rt; count, 400, "in pieces of {size}");
+        assert_eq!(rt; pieces.as_slice(), whole.as_slice(), "in pieces of {size}");
     }
+}
+
+fn digest_of_four(bytes: &[u8; 1000]) -> [u8; 32] {
+    let (one, rest) = bytes.split_at(1);
+    let (middle, rest) = rest.split_at(256);
+    digest_of_pieces(&[one, &[], middle, rest])
 }
 
 #[test]
 fn joined_pieces_have_one_digest(rt: HostRuntime) {
     let bytes = message();
-    let pieces: [&[u8]; 4] = [&bytes[..1], &[], &bytes[1..257], &bytes[257..]];
     assert_eq!(rt;
-        digest_of_pieces(&pieces).as_slice(),
+        digest_of_four(&bytes).as_slice(),
         digest(&bytes).as_slice()
     );
 }
