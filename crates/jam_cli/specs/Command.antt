@@ -21,7 +21,7 @@ use Rattle.jam_outside.specs.Files.{Files, content}
 use Rattle.jam_cli.specs.declared.verb.Kind.{Kind}
 use Rattle.jam_cli.specs.declared.verb.Kind.TheVariants.{Program, Bytes, State, Batch}
 use Rattle.jam_cli.specs.declared.verb.Verb.{Verb}
-use Rattle.jam_cli.specs.declared.verb.Verb.TheVariants.{Run, Hash, Accumulate}
+use Rattle.jam_cli.specs.declared.verb.Verb.TheVariants as the
 use Rattle.jam_cli.specs.Table.{row, Input, Arguments, Command, command, inputs}
 
 -- ---- What files hold
@@ -116,9 +116,9 @@ accumulate_work prior batch name =
 
 -- the work of a verb
 abbrev pub work_of : (verb : Verb) (arguments : Arguments (row verb).parts) → Values (kinds (inputs (command verb arguments))) → Work
-work_of Run arguments values = run_work values.0 arguments.1.0
-work_of Hash arguments values = hash_work values.0
-work_of Accumulate arguments values = accumulate_work values.0 values.1.0 arguments.1.1.0
+work_of the.Run arguments values = run_work values.0 arguments.1.0
+work_of the.Hash arguments values = hash_work values.0
+work_of the.Accumulate arguments values = accumulate_work values.0 values.1.0 arguments.1.1.0
 
 abbrev pub work : (c : Command) → Values (kinds (inputs c)) → Work
 work c values = work_of c.verb c.arguments values

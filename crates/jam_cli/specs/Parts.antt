@@ -11,7 +11,7 @@ use Rattle.jam_cli.specs.declared.refusal.Refusal.{Refusal}
 use Rattle.jam_cli.specs.declared.refusal.Refusal.TheVariants.{NoMemory, BadWords, ReadFault, TooLong, NotSpelled, SinkFault, StoreFault}
 use Rattle.jam_cli.specs.declared.verb.Kind.{Kind}
 use Rattle.jam_cli.specs.declared.verb.Verb.{Verb}
-use Rattle.jam_cli.specs.declared.verb.Verb.TheVariants.{Run, Hash, Accumulate}
+use Rattle.jam_cli.specs.declared.verb.Verb.TheVariants as the
 use Rattle.jam_cli.specs.declared.words.Command as parsed
 use Rattle.jam_cli.specs.declared.words.Command.TheVariants as of
 use Rattle.jam_cli.specs.declared.words.Line as parsed_line
@@ -29,9 +29,9 @@ use Rattle.jam_cli.specs.Ending.{Call, limit, FirstTooLong, FirstRefused, FirstN
 
 -- what a command of the code stands for
 abbrev pub asked : parsed.Command → Command
-asked (of.Run blob gas) = command Run (blob.now, (gas.value, tt))
-asked (of.Hash file) = command Hash (file.now, tt)
-asked (of.Accumulate state batch posterior slice) = command Accumulate (state.now, (batch.now, (posterior.now, (slice, tt))))
+asked (of.Run blob gas) = command the.Run (blob.now, (gas.value, tt))
+asked (of.Hash file) = command the.Hash (file.now, tt)
+asked (of.Accumulate state batch posterior slice) = command the.Accumulate (state.now, (batch.now, (posterior.now, (slice, tt))))
 
 -- the words of a command, where each argument has one word
 abbrev pub word_of : (part : Part) → Argument part → List ℕ

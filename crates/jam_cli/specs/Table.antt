@@ -6,7 +6,7 @@ use Rattle.std.specs.declared.alloc.Global.{Global}
 use Rattle.jam_cli.specs.declared.verb.Kind.{Kind}
 use Rattle.jam_cli.specs.declared.verb.Kind.TheVariants.{Program, Bytes, State, Batch}
 use Rattle.jam_cli.specs.declared.verb.Verb.{Verb}
-use Rattle.jam_cli.specs.declared.verb.Verb.TheVariants.{Run, Hash, Accumulate}
+use Rattle.jam_cli.specs.declared.verb.Verb.TheVariants as the
 
 -- a part: the name of a file that is read, with what it holds; the name that is stored under; a number below a bound
 pub data Part : Type 0 where
@@ -20,12 +20,12 @@ pub record Row : Type 0 where
 
 -- the table; the slice of accumulate is 0 for now
 abbrev pub row : Verb → Row
-row Run = record { name = codes "run"; parts = reads Program ∷ (number (2 ^ 63) ∷ []) }
-row Hash = record { name = codes "hash"; parts = reads Bytes ∷ [] }
-row Accumulate = record { name = codes "accumulate"; parts = reads State ∷ (reads Batch ∷ (stores ∷ (number 1 ∷ []))) }
+row the.Run = record { name = codes "run"; parts = reads Program ∷ (number (2 ^ 63) ∷ []) }
+row the.Hash = record { name = codes "hash"; parts = reads Bytes ∷ [] }
+row the.Accumulate = record { name = codes "accumulate"; parts = reads State ∷ (reads Batch ∷ (stores ∷ (number 1 ∷ []))) }
 
 abbrev pub verbs : List Verb
-verbs = Run ∷ (Hash ∷ (Accumulate ∷ []))
+verbs = the.Run ∷ (the.Hash ∷ (the.Accumulate ∷ []))
 
 -- the verb with a name, if there is one
 unfoldable pub verb_named : List ℕ → Option Verb

@@ -1,6 +1,6 @@
 // The words of a command line.
 ghost use Rattle.std.specs.Prelude.{◌≡◌, ◌≢◌, ◌<◌, ◌^◌, [], ◌∷◌, ℕ, IfOk, Err, MatchOption, MatchResult, IsTrue, ◌↔◌, decimal, string_bytes};
-ghost use Rattle.jam_cli.specs.declared.verb.Verb.TheVariants.{Run, Hash, Accumulate};
+ghost use Rattle.jam_cli.specs.declared.verb.Verb.TheVariants as the;
 ghost use Rattle.jam_cli.specs.declared.words.Misfit.TheVariants.{OtherWords, NoMemory};
 ghost use Rattle.jam_cli.specs.Table.{Asks, AsksNothing, texts};
 ghost use Rattle.jam_cli.specs.Parts.{asked, IsLine, Parses};
@@ -127,7 +127,7 @@ fn input(word: u8, name: &str, kind: Kind) -> Input<'_>
 }
 
 fn run_of<'a>(alloc: Global, words: &'a [String]) -> Result<Line<'a>, Misfit>
-    ensures { Parses Run (texts words.now) result }
+    ensures { Parses the.Run (texts words.now) result }
 {
     let [blob, gas] = words else {
         return Err(Misfit::OtherWords);
@@ -142,7 +142,7 @@ fn run_of<'a>(alloc: Global, words: &'a [String]) -> Result<Line<'a>, Misfit>
 }
 
 fn hash_of<'a>(alloc: Global, words: &'a [String]) -> Result<Line<'a>, Misfit>
-    ensures { Parses Hash (texts words.now) result }
+    ensures { Parses the.Hash (texts words.now) result }
 {
     let [file] = words else {
         return Err(Misfit::OtherWords);
@@ -156,7 +156,7 @@ fn hash_of<'a>(alloc: Global, words: &'a [String]) -> Result<Line<'a>, Misfit>
 }
 
 fn accumulate_of<'a>(alloc: Global, words: &'a [String]) -> Result<Line<'a>, Misfit>
-    ensures { Parses Accumulate (texts words.now) result }
+    ensures { Parses the.Accumulate (texts words.now) result }
 {
     let [state, batch, posterior, slice] = words else {
         return Err(Misfit::OtherWords);

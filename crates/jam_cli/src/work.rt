@@ -1,7 +1,7 @@
 // What each command makes of the values of its files.
 ghost use Rattle.std.specs.Prelude.{◌≡◌, [], ◌∷◌, IfOk, IfErr};
 ghost use Rattle.jam_cli.specs.declared.verb.Kind.TheVariants as kind;
-ghost use Rattle.jam_cli.specs.declared.verb.Verb.TheVariants.{Run, Hash, Accumulate};
+ghost use Rattle.jam_cli.specs.declared.verb.Verb.TheVariants as the;
 ghost use Rattle.jam_cli.specs.Table.{command, inputs};
 ghost use Rattle.jam_cli.specs.Command.{kinds};
 ghost use Rattle.jam_cli.specs.Parts.{asked, plain_files, inputs_in, plain_work, IsWork, NotAllSpelled};
@@ -38,7 +38,7 @@ fn run_on<'a>(
     files: &[File<'_>],
 ) -> Result<Work<'a>, Refusal>
     requires { kinds (inputs_in files.now) ≡ kind.Program ∷ [] }
-    ensures made { IfOk result (λ work. IsWork (command Run (blob.now, (gas.value, tt))) (plain_files files.now) (plain_work work)) }
+    ensures made { IfOk result (λ work. IsWork (command the.Run (blob.now, (gas.value, tt))) (plain_files files.now) (plain_work work)) }
     ensures refused { IfErr result (λ refusal. NotAllSpelled refusal (plain_files files.now)) }
 {
     let (program, ()) = Contents::decode_all(alloc, files)?;
@@ -48,7 +48,7 @@ fn run_on<'a>(
 #[tactic(auto, using(std::proofs::lemmas::Result::err_from_is_err_and))]
 fn hash_on<'a>(alloc: Global, file: &'a str, files: &[File<'_>]) -> Result<Work<'a>, Refusal>
     requires { kinds (inputs_in files.now) ≡ kind.Bytes ∷ [] }
-    ensures made { IfOk result (λ work. IsWork (command Hash (file.now, tt)) (plain_files files.now) (plain_work work)) }
+    ensures made { IfOk result (λ work. IsWork (command the.Hash (file.now, tt)) (plain_files files.now) (plain_work work)) }
     ensures refused { IfErr result (λ refusal. NotAllSpelled refusal (plain_files files.now)) }
 {
     let (bytes, ()): (&[u8], ()) = Contents::decode_all(alloc, files)?;
@@ -65,7 +65,7 @@ fn accumulate_on<'a>(
     files: &[File<'_>],
 ) -> Result<Work<'a>, Refusal>
     requires { kinds (inputs_in files.now) ≡ kind.State ∷ (kind.Batch ∷ []) }
-    ensures made { IfOk result (λ work. IsWork (command Accumulate (state.now, (batch.now, (posterior.now, (slice, tt))))) (plain_files files.now) (plain_work work)) }
+    ensures made { IfOk result (λ work. IsWork (command the.Accumulate (state.now, (batch.now, (posterior.now, (slice, tt))))) (plain_files files.now) (plain_work work)) }
     ensures refused { IfErr result (λ refusal. NotAllSpelled refusal (plain_files files.now)) }
 {
     let (prior, (batch, ())) = Contents::decode_all(alloc, files)?;
