@@ -18,24 +18,33 @@ fn fetches(rt: &impl Abort, program: &Program, place: u64, bytes: Option<u64>) {
     let op = program.op_at(place);
     let skip = program.skip(place);
     let next = place.wrapping_add(1 + u64::from(skip));
-    let wanted = bytes.map(|bytes| Fetched {
-        op,
-        skip,
-        next,
-        bytes,
-    });
-    assert_eq!(rt; program.fetch(place), wanted, "fetched at {place}");
+    let fetched = program.fetch(place);
+    if let Some(bytes) = bytes {
+        let wanted = Fetched {
+            op,
+            skip,
+            next,
+            bytes,
+        };
+        assert_eq!(rt; fetched, Some(wanted), "fetched at {place}");
+    } else {
+        assert_eq!(rt; fetched, None, "fetched at {place}");
+    }
 }
 
+// Whether an instruction begins at the place, its opcode and its skip, and whether a block begins there.
 fn stands(
     rt: &impl Abort,
     program: &Program,
     (place, begins, op, skip, starts): (u64, bool, Op, u8, bool),
 ) {
-    assert_eq!(rt; program.mask_at(place), begins, "mask at {place}");
-    assert_eq!(rt; program.op_at(place), op, "opcode at {place}");
-    assert_eq!(rt; program.skip(place), skip, "skip at {place}");
-    assert_eq!(rt; program.is_start(place), starts, "block at {place}");
+    let found = (
+        program.mask_at(place),
+        program.op_at(place),
+        program.skip(place),
+        program.is_start(place),
+    );
+    assert_eq!(rt; found, (begins, op, skip, starts), "at {place}");
 }
 
 #[test]
@@ -89,9 +98,10 @@ fn skips(
     starts: bool,
 ) -> Result<(), ProgramRefusal> {
     let program = program_of(alloc, blob)?;
-    assert_eq!(rt; program.skip(0), skip);
-    assert_eq!(rt; program.is_start(25) || program.is_start(26), starts);
-    assert_eq!(rt; program.skip(27), 12);
+    let found = (program.skip(0), program.skip(27));
+    assert_eq!(rt; found, (skip, 12));
+    let starts_late = program.is_start(25) || program.is_start(26);
+    assert_eq!(rt; starts_late, starts);
     Ok(())
 }
 

@@ -4,12 +4,19 @@ ghost use Rattle.std.specs.Prelude.{◌≤◌, ◌<◌, length};
 use pvm_isa::*;
 use std::process::Abort;
 
-fn stands(rt: &impl Abort, number: u8, name: &str, op: Op, ends: bool) {
-    assert_eq!(rt; op_of(number), Some(op), "number {number}");
-    assert_eq!(rt; op_or_trap(number), op, "number {number}");
-    assert_eq!(rt; number_of(op), number, "number of {name}");
+fn has_number(rt: &impl Abort, op: Op, number: u8) {
+    let found = (op_of(number), op_or_trap(number), number_of(op));
+    assert_eq!(rt; found, (Some(op), op, number));
+}
+
+fn has_name(rt: &impl Abort, op: Op, name: &str) {
     assert_eq!(rt; op_named(name), Some(op), "name {name}");
-    assert!(rt; name_of(op) == name, "name of {number}");
+    assert_eq!(rt; name_of(op), name);
+}
+
+fn stands(rt: &impl Abort, number: u8, name: &str, op: Op, ends: bool) {
+    has_number(rt, op, number);
+    has_name(rt, op, name);
     assert_eq!(rt; is_terminator(op), ends, "end at {name}");
 }
 
@@ -33,8 +40,8 @@ fn numbers_and_names_stand_for_opcodes(rt: HostRuntime) {
 }
 
 fn stands_for_none(rt: &impl Abort, number: u8) {
-    assert_eq!(rt; op_of(number), None, "number {number}");
-    assert_eq!(rt; op_or_trap(number), Op::Trap, "number {number}");
+    let found = (op_of(number), op_or_trap(number));
+    assert_eq!(rt; found, (None, Op::Trap), "number {number}");
 }
 
 #[test]
@@ -57,6 +64,10 @@ fn other_numbers_and_names_stand_for_none(rt: HostRuntime) {
 
 type Row<'a> = (Op, &'a [u8], u64, u8, (u8, u8, u8), u64, u64, Option<u64>);
 
+fn agree(rt: &impl Abort, op: Op, way: &str, args: Args, wanted: Args) {
+    assert_eq!(rt; args, wanted, "{} {way}", name_of(op));
+}
+
 // The arguments by the whole code, and by the window of the code that their form takes.
 fn stand_so(rt: &impl Abort, (op, code, pc, skip, (a, b, d), x, y, target): Row<'_>) {
     assert!(rt; pc < 16 && pc < code.len() as u64 && skip <= 24);
@@ -68,14 +79,9 @@ fn stand_so(rt: &impl Abort, (op, code, pc, skip, (a, b, d), x, y, target): Row<
         y,
         target,
     };
-    assert_eq!(rt;
-        args_of(op, code, pc, skip),
-        wanted,
-        "{} at {pc}",
-        name_of(op)
-    );
+    agree(rt, op, "by the code", args_of(op, code, pc, skip), wanted);
     if let Some(args) = args_in_window(op, code, pc, skip) {
-        assert_eq!(rt; args, wanted, "{} in a window", name_of(op));
+        agree(rt, op, "by a window", args, wanted);
     }
 }
 

@@ -12,12 +12,18 @@ mod shifts;
 // The least signed number.
 const LEAST: u64 = 1 << 63;
 
+fn is_value(rt: &impl Abort, op: Op, a: u64, b: u64, value: u64)
+    requires { IsTrue (alu.is_binary op) }
+{
+    assert_eq!(rt; binary(op, a, b), value, "{op:?} of {a} and {b}");
+}
+
 // The rows have the two values and the operation's.
 fn gives(rt: &impl Abort, op: Op, rows: &[(u64, u64, u64)])
     requires { IsTrue (alu.is_binary op) }
 {
     for &(a, b, value) in rows {
-        assert_eq!(rt; binary(op, a, b), value, "{op:?} of {a} and {b}");
+        is_value(rt, op, a, b, value);
     }
 }
 
@@ -26,7 +32,7 @@ fn gives_turned(rt: &impl Abort, op: Op, rows: &[(u64, u64, u64)])
     requires { IsTrue (alu.is_binary op) }
 {
     for &(a, b, value) in rows {
-        assert_eq!(rt; binary(op, b, a), value, "{op:?} of {b} and {a}");
+        is_value(rt, op, b, a, value);
     }
 }
 

@@ -119,6 +119,10 @@ fn a_store_goes_over_two_pages(rt: HostRuntime) -> Result<(), AllocError> {
     Ok(())
 }
 
+fn has_rights(rt: &impl Abort, memory: &Memory, page: u32, rights: Rights) {
+    assert_eq!(rt; memory.rights(page), rights, "of page {page}");
+}
+
 #[test]
 fn lifted_pages_keep_what_they_have(rt: HostRuntime) -> Result<(), AllocError> {
     let mut memory = pages(rt.alloc(), 1)?;
@@ -134,7 +138,7 @@ fn lifted_pages_keep_what_they_have(rt: HostRuntime) -> Result<(), AllocError> {
         (18, Rights::No),
     ];
     for (page, rights) in rows {
-        assert_eq!(rt; memory.rights(page), rights, "of page {page}");
+        has_rights(&rt, &memory, page, rights);
     }
     Ok(())
 }
@@ -157,6 +161,12 @@ fn bytes_are_kept_where_that_is_asked(rt: HostRuntime) -> Result<(), AllocError>
     Ok(())
 }
 
+// Whether n bytes may be read; none of them may be written.
+fn is_readable(rt: &impl Abort, memory: &Memory, addr: u64, n: u64, answer: bool) {
+    let found = (memory.readable(addr, n), memory.writable(addr, n));
+    assert_eq!(rt; found, (answer, n == 0), "{n} bytes at {addr}");
+}
+
 #[test]
 fn ranges_end_at_the_last_address(rt: HostRuntime) -> Result<(), AllocError> {
     let mut memory = Memory::new(rt.alloc());
@@ -171,19 +181,15 @@ fn ranges_end_at_the_last_address(rt: HostRuntime) -> Result<(), AllocError> {
         (u64::MAX, 1, false),
     ];
     for (addr, n, answer) in rows {
-        assert_eq!(rt; memory.readable(addr, n), answer, "{n} bytes at {addr}");
-        assert_eq!(rt; memory.writable(addr, n), n == 0, "{n} bytes at {addr}");
+        is_readable(&rt, &memory, addr, n, answer);
     }
     Ok(())
 }
 
-// Byte i is i modulo 251.
-fn counted<const N: usize>() -> [u8; N] {
-    let mut bytes = [0; N];
+fn count_up(bytes: &mut [u8]) {
     for (i, byte) in bytes.iter_mut().enumerate() {
         *byte = (i % 251) as u8;
     }
-    bytes
 }
 
 fn copy_in(
@@ -211,7 +217,9 @@ fn fill(rt: &impl Abort, memory: &mut Memory, addr: u64, bytes: &[u8]) -> Result
 #[test]
 fn bytes_are_copied_in_and_out(rt: HostRuntime) -> Result<(), AllocError> {
     let mut memory = pages(rt.alloc(), 3)?;
-    let bytes: [u8; 5000] = counted();
+    // Byte i is i modulo 251.
+    let mut bytes = [0; 5000];
+    count_up(&mut bytes);
     copy_in(&rt, &mut memory, 69_000, &bytes)?;
     let mut out = [7u8; 5002];
     copy_out(&rt, &memory, 68_999, &mut out);

@@ -43,6 +43,10 @@ fn with_heap(alloc: Global, blob: &[u8], gas: u64, heap: Heap) -> Result<Machine
     Ok(machine)
 }
 
+fn run(machine: &mut Machine, fuel: u64) -> Result<Progress, AllocError> {
+    machine.run(fuel)
+}
+
 // A run of so many steps at most goes so.
 fn runs(
     rt: &impl Abort,
@@ -50,7 +54,7 @@ fn runs(
     fuel: u64,
     wanted: Progress,
 ) -> Result<(), AllocError> {
-    let progress = machine.run(fuel)?;
+    let progress = run(machine, fuel)?;
     assert_eq!(rt; progress, wanted);
     Ok(())
 }
@@ -136,14 +140,10 @@ fn gives_output(
     Ok(())
 }
 
-#[test]
-fn the_heap_grows_by_pages(rt: HostRuntime) -> Result<(), Fail> {
-    let heap = Heap::new(69_630, 1 << 20);
-    let mut grown = with_heap(rt.alloc(), &GROWS, 10, heap)?;
-    runs(&rt, &mut grown, 10, Progress::Ended(Exit::Panic))?;
-    is_at(&rt, &grown, 10, 5);
-    has_registers(&rt, &grown, &[(1, 69_630), (2, 5000)]);
-    has_heap(&rt, &grown, 74_630, 1 << 20);
+fn has_grown(rt: &impl Abort, machine: &Machine) {
+    is_at(rt, machine, 10, 5);
+    has_registers(rt, machine, &[(1, 69_630), (2, 5000)]);
+    has_heap(rt, machine, 74_630, 1 << 20);
     let rights = [
         (15, Rights::No),
         (16, Rights::Write),
@@ -152,16 +152,34 @@ fn the_heap_grows_by_pages(rt: HostRuntime) -> Result<(), Fail> {
         (19, Rights::No),
     ];
     for (page, right) in rights {
-        has_rights(&rt, &grown, page, right);
+        has_rights(rt, machine, page, right);
     }
-    gives_output(&rt, &mut grown, (69_630, 4), &[0x88, 0x13, 0, 0])?;
-    gives_output(&rt, &mut grown, (69_630, 1 << 40), &[])?;
+}
+
+fn the_heap_grows(rt: &impl Abort, alloc: Global) -> Result<(), ProgramRefusal> {
+    let heap = Heap::new(69_630, 1 << 20);
+    let mut grown = with_heap(alloc, &GROWS, 10, heap)?;
+    runs(rt, &mut grown, 10, Progress::Ended(Exit::Panic))?;
+    has_grown(rt, &grown);
+    gives_output(rt, &mut grown, (69_630, 4), &[0x88, 0x13, 0, 0])?;
+    gives_output(rt, &mut grown, (69_630, 1 << 40), &[])?;
+    Ok(())
+}
+
+fn a_full_heap_stays(rt: &impl Abort, alloc: Global) -> Result<(), ProgramRefusal> {
     let heap = Heap::new(65_536, 70_535);
-    let mut full = with_heap(rt.alloc(), &GROWS, 10, heap)?;
-    runs(&rt, &mut full, 2, Progress::Paused)?;
-    has_registers(&rt, &full, &[(1, 0)]);
-    has_heap(&rt, &full, 65_536, 70_535);
-    has_rights(&rt, &full, 16, Rights::No);
+    let mut full = with_heap(alloc, &GROWS, 10, heap)?;
+    runs(rt, &mut full, 2, Progress::Paused)?;
+    has_registers(rt, &full, &[(1, 0)]);
+    has_heap(rt, &full, 65_536, 70_535);
+    has_rights(rt, &full, 16, Rights::No);
+    Ok(())
+}
+
+#[test]
+fn the_heap_grows_by_pages(rt: HostRuntime) -> Result<(), Fail> {
+    the_heap_grows(&rt, rt.alloc())?;
+    a_full_heap_stays(&rt, rt.alloc())?;
     Ok(())
 }
 
