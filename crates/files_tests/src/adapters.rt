@@ -1,5 +1,8 @@
 //! The adapters over real files and standard output. The expected answers were set by hand.
-use crate::calls::{gives, holds, is_free, many_bytes, refuses_to_read, refuses_to_store, stores};
+use crate::calls::{
+    gives, holds, is_free, makes_folder, many_bytes, refuses_to_read, refuses_to_store,
+    removes_folder, stores,
+};
 use jam_files::{FileVault, OutSink, put_all};
 use jam_outside::{OutsideError, Sink};
 use std::alloc::Global;
@@ -17,36 +20,38 @@ fn mode_of(rt: &HostRuntime, name: &str) -> io::Result<u32> {
 
 fn is_read(rt: &HostRuntime) -> bool {
     let mut vault = FileVault::new(rt, rt.alloc());
-    gives(&mut vault, "digits", 0, 12, b"0123456789")
-        && gives(&mut vault, "digits", 7, 12, b"789")
-        && gives(&mut vault, "digits", 2, 4, b"2345")
-        && gives(&mut vault, "digits", 10, 12, b"")
-        && gives(&mut vault, "digits", 99, 12, b"")
-        && refuses_to_read(&mut vault, "absent", 1)
+    gives(&mut vault, "adapters/digits", 0, 12, b"0123456789")
+        && gives(&mut vault, "adapters/digits", 7, 12, b"789")
+        && gives(&mut vault, "adapters/digits", 2, 4, b"2345")
+        && gives(&mut vault, "adapters/digits", 10, 12, b"")
+        && gives(&mut vault, "adapters/digits", 99, 12, b"")
+        && refuses_to_read(&mut vault, "adapters/absent", 1)
 }
 
 // A vault that has not read the file replaces it. A folder in the way fails.
 fn is_stored(rt: &HostRuntime) -> bool {
     let mut vault = FileVault::new(rt, rt.alloc());
-    stores(&mut vault, "digits", b"new")
-        && gives(&mut vault, "digits", 0, 12, b"new")
-        && refuses_to_store(&mut vault, "absent/digits", b"lost", 1)
+    stores(&mut vault, "adapters/digits", b"new")
+        && gives(&mut vault, "adapters/digits", 0, 12, b"new")
+        && refuses_to_store(&mut vault, "adapters/absent/digits", b"lost", 1)
         && refuses_to_store(&mut vault, "/dev/full", b"lost", 2)
         && stores(&mut vault, "/dev/null", b"gone")
-        && refuses_to_store(&mut vault, "folder", b"lost", 3)
+        && refuses_to_store(&mut vault, "adapters/folder", b"lost", 3)
 }
 
 #[test]
 fn files_are_read_and_stored(rt: HostRuntime) -> io::Result<()> {
-    fs::write(&rt, "digits", "0123456789")?;
-    fs::set_permissions(&rt, "digits", Permissions::from_mode(0o600))?;
-    fs::create_dir(&rt, "folder")?;
+    fs::create_dir(&rt, "adapters")?;
+    fs::write(&rt, "adapters/digits", "0123456789")?;
+    fs::set_permissions(&rt, "adapters/digits", Permissions::from_mode(0o600))?;
+    assert!(rt; makes_folder(&rt, "adapters/folder"));
     assert!(rt; is_read(&rt));
     assert!(rt; is_stored(&rt));
-    let mode = mode_of(&rt, "digits")?;
+    let mode = mode_of(&rt, "adapters/digits")?;
     assert_eq!(rt; mode, 0o600);
-    assert!(rt; is_free(&rt, "digits.part"));
-    fs::remove_file(&rt, "digits")
+    assert!(rt; is_free(&rt, "adapters/digits.part"));
+    assert!(rt; removes_folder(&rt, "adapters"));
+    Ok(())
 }
 
 // A device that has no room.
@@ -156,5 +161,5 @@ fn long_puts_are_written_whole(rt: HostRuntime) -> io::Result<()> {
     assert!(rt; holds(&rt, "printed", &bytes));
     let passed = go_through_a_pipe(&rt, &bytes)?;
     assert!(rt; passed);
-    Ok(())
+    fs::remove_file(&rt, "printed")
 }

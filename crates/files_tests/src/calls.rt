@@ -3,6 +3,7 @@ use jam_files::FileVault;
 use jam_outside::{OutsideError, Vault, read_whole};
 use std::alloc::{AllocError, Global};
 use std::fs;
+use std::os::unix::fs::symlink;
 use std::rt::Files;
 
 fn count_up(bytes: &mut [u8]) {
@@ -68,6 +69,47 @@ pub fn refuses_to_store<R: Files>(
 ) -> bool {
     let failed = matches!(vault.store(name, bytes), Err(OutsideError::Failed));
     failed && vault.store_faults == faults && vault.store_failed.as_str() == name
+}
+
+/// Whether a whole read by a new vault gives these bytes.
+pub fn gives_whole_anew<R: Files>(files: &R, alloc: Global, name: &str, bytes: &[u8]) -> bool {
+    let mut vault = FileVault::new(files, alloc);
+    gives_whole(&mut vault, alloc, name, bytes) && vault.read_faults == 0
+}
+
+/// Whether a new vault stores these bytes.
+pub fn stores_anew<R: Files>(files: &R, alloc: Global, name: &str, bytes: &[u8]) -> bool {
+    let mut vault = FileVault::new(files, alloc);
+    stores(&mut vault, name, bytes)
+}
+
+/// Whether a store of a new vault fails, and is counted.
+pub fn refuses_anew<R: Files>(files: &R, alloc: Global, name: &str, bytes: &[u8]) -> bool {
+    let mut vault = FileVault::new(files, alloc);
+    refuses_to_store(&mut vault, name, bytes, 1)
+}
+
+pub fn makes_folder(rt: &HostRuntime, name: &str) -> bool {
+    fs::create_dir(rt, name).is_ok()
+}
+
+/// Tests share a folder, so that each has one in it, which it makes and removes.
+pub fn removes_folder(rt: &HostRuntime, name: &str) -> bool {
+    fs::remove_dir_all(rt, name).is_ok()
+}
+
+pub fn writes(rt: &HostRuntime, name: &str, bytes: &[u8]) -> bool {
+    fs::write(rt, name, bytes).is_ok()
+}
+
+/// Whether a link to this path is made.
+pub fn links(rt: &HostRuntime, path: &str, name: &str) -> bool {
+    symlink(rt, path, name).is_ok()
+}
+
+/// Whether the file gets a second name.
+pub fn names_again(rt: &HostRuntime, name: &str, second: &str) -> bool {
+    fs::hard_link(rt, name, second).is_ok()
 }
 
 /// Whether the file is there and holds these bytes.

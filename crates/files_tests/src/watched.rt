@@ -2,10 +2,10 @@
 use std::alloc::Allocator;
 use std::cell::Cell;
 use std::fs::{File, Metadata, OpenFile, OpenOptions, Permissions};
+use std::io;
 use std::io::{ErrorKind, Read, Seek, SeekFrom, Write};
 use std::path::PathBuf;
 use std::rt::Files;
-use std::{fs, io};
 
 /// What goes wrong.
 #[derive(Clone, Copy)]
@@ -186,33 +186,33 @@ impl<'a> Files for Watched<'a> {
     }
 
     fn metadata(&self, path: &str) -> io::Result<Metadata> {
-        fs::metadata(self.rt, path)
+        self.rt.metadata(path)
     }
 
     fn symlink_metadata(&self, path: &str) -> io::Result<Metadata> {
-        fs::symlink_metadata(self.rt, path)
+        self.rt.symlink_metadata(path)
     }
 
     fn copy(&self, from: &str, to: &str) -> io::Result<u64> {
-        fs::copy(self.rt, from, to)
+        self.rt.copy(from, to)
     }
 
     fn rename(&self, from: &str, to: &str) -> io::Result<()> {
         let fails = matches!(self.trouble, Trouble::NoRename);
         fail_where(fails, ErrorKind::PermissionDenied)?;
-        fs::rename(self.rt, from, to)
+        self.rt.rename(from, to)
     }
 
     fn remove_file(&self, path: &str) -> io::Result<()> {
-        fs::remove_file(self.rt, path)
+        self.rt.remove_file(path)
     }
 
     fn create_dir(&self, path: &str) -> io::Result<()> {
-        fs::create_dir(self.rt, path)
+        self.rt.create_dir(path)
     }
 
     fn remove_dir(&self, path: &str) -> io::Result<()> {
-        fs::remove_dir(self.rt, path)
+        self.rt.remove_dir(path)
     }
 
     fn remove_dir_all<B: Allocator>(&self, alloc: B, path: &str) -> io::Result<()> {
