@@ -1,6 +1,6 @@
 -- What a store does, and what the machine does at a place past the code.
 use Rattle.std.proofs.lemmas.Bool.{cases_lt}
-use Rattle.std.proofs.Common.{◌≡◌, ℕ, zero, suc, ◌+◌, ◌<◌, ◌≤◌, inl, inr, false, ◌&&◌, length, arith, ap, ◌∙◌, refl, Option, Some, None, Result, Ok, Err}
+use Rattle.std.proofs.Common.{◌≡◌, ℕ, ◌<◌, ◌≤◌, inl, inr, false, ◌&&◌, length, arith, ap, ◌∙◌, refl, Option, Some, None, Result, Ok, Err}
 use Rattle.std.specs.Prelude.{◌↔◌, nat_lt, if◌then◌else◌, is_some, unwrap_or}
 use Rattle.std.proofs.lemmas.Bool.Decides.{nat_tests}
 use Rattle.pvm_isa.specs.declared.op.Op.TheVariants.{Trap, Ecalli}
@@ -11,9 +11,7 @@ use Rattle.paged_memory.specs.declared.access.Access.{Access}
 use Rattle.paged_memory.specs.declared.access.StoreRefusal.{StoreRefusal}
 use Rattle.paged_memory.specs.declared.access.StoreRefusal.TheVariants as refused
 use Rattle.paged_memory.specs.PageMap.{Memory, refusal, put_bytes, bytes_of}
-use Rattle.pvm_step.specs.declared.exit.Exit.{Exit}
-use Rattle.pvm_step.specs.declared.exit.Exit.TheVariants.{Panic, OutOfGas}
-use Rattle.pvm_step.specs.History.{step}
+use Rattle.pvm_step.specs.declared.exit.Exit.TheVariants.{Panic}
 use Rattle.pvm_isa.specs.declared.arguments.Args.{Args}
 use Rattle.pvm_isa.specs.declared.form.Form.{Form}
 use Rattle.pvm_isa.specs.declared.op.Op.{Op}
@@ -62,18 +60,6 @@ trap_panics p s = refl
 pub effect-past : (p : Program) (s : State) → length p.code ≤ s.pc → effect p s ≡ stops s Panic
 unfolding effect
 effect-past p s past = ap (λ op. outcome op p s) (op_at-past p s.pc past) ∙ trap_panics p s
-
--- a step with gas takes 1 for what it does
-pub step-acts : (p : Program) (gas left : ℕ) (s t : State) (exit : Option Exit) → gas ≡ left + 1 → record { state = t; exit = exit } ≡ effect p s → record { state = t; gas = left; exit = exit } ≡ step p gas s
-step-acts p zero left s t exit one acts = absurd (omega arith)
-step-acts p (suc gas) left s t exit one acts =
-    let same : left ≡ gas = omega arith in
-    λ i. record { state = (acts i).state; gas = same i; exit = (acts i).exit }
-
--- one without gas is out of it
-pub step-without : (p : Program) (gas : ℕ) (s : State) → gas ≡ 0 → record { state = s; gas = gas; exit = Some OutOfGas } ≡ step p gas s
-step-without p zero s none = refl
-step-without p (suc gas) s none = absurd (omega arith)
 
 -- so a host call stands within the code
 pub within-ecalli : (p : Program) (i : ℕ) → op_at p i ≡ Ecalli → i < length p.code

@@ -1,17 +1,17 @@
-// The kinds of effects, over values that are read already.
+// Effects, over values that are read already.
 ghost use Rattle.std.specs.Prelude.{◌≡◌, ◌<◌, ◌≤◌, ◌+◌, ◌^◌, IsTrue, true, None, set, IfOk, OnOk, OnErr};
 ghost use Rattle.blob_decode.specs.Program as blob;
 ghost use Rattle.blob_decode.specs.Program.{jump_to, jump_through};
 ghost use Rattle.paged_memory.specs.PageMap.{is_width};
 ghost use Rattle.pvm_alu.specs.Alu as alu;
 ghost use Rattle.pvm_step.specs.Effect.{Gives, Loads, Stores, Branches, Moves, Grows, after, lands, grown, value_in, exit_of};
-ghost use Rattle.pvm_step.specs.declared.went.Went.TheVariants.{On};
-ghost use Rattle.pvm_step.specs.Machine.{state_of, after_of, exit_after, is_done};
+ghost use Rattle.pvm_step.specs.declared.attempt.Attempt.TheVariants.{Next};
+ghost use Rattle.pvm_step.specs.Machine.{ChangesStateAlone, state_of, after_of, exit_after, is_done};
 
+use crate::attempt::Attempt;
 use crate::exit::Exit;
 use crate::heap::Heap;
 use crate::machine::Machine;
-use crate::went::Went;
 use paged_memory::{Access, StoreRefusal};
 use pvm_alu::widen;
 use pvm_isa::Op;
@@ -39,16 +39,6 @@ impl Machine {
         self.registers[usize::from(register)]
     }
 
-    /// The place of the next instruction.
-    #[inline(always)]
-    pub(crate) fn next(&self, skip: u8) -> u64
-        requires place { self.now.pc < 2 ^ 63 }
-        requires skip { skip ≡ blob.skip self.now.program self.now.pc }
-        ensures { result ≡ blob.next self.now.program self.now.pc }
-    {
-        self.pc + 1 + u64::from(skip)
-    }
-
     /// Goes to the next instruction.
     #[inline(always)]
     pub(crate) fn go_on(&mut self, next: u64)
@@ -66,8 +56,7 @@ impl Machine {
         requires next { next ≡ blob.next self.old.program self.old.pc }
         ensures acts { after_of self.new None ≡ after self.old.program (state_of self.old) (Gives register value) }
         ensures next { self.new.pc ≡ blob.next self.old.program self.old.pc }
-        ensures program { self.new.program ≡ self.old.program }
-        ensures gas { self.new.gas ≡ self.old.gas }
+        ensures rest { ChangesStateAlone self.old self.new }
     {
         self.registers[usize::from(register)] = value;
         self.go_on(next);
@@ -81,8 +70,7 @@ impl Machine {
         requires next { next ≡ blob.next self.old.program self.old.pc }
         ensures acts { after_of self.new None ≡ after self.old.program (state_of self.old) (Moves holds register value) }
         ensures next { self.new.pc ≡ blob.next self.old.program self.old.pc }
-        ensures program { self.new.program ≡ self.old.program }
-        ensures gas { self.new.gas ≡ self.old.gas }
+        ensures rest { ChangesStateAlone self.old self.new }
     {
         if holds {
             self.registers[usize::from(register)] = value;
@@ -99,21 +87,18 @@ impl Machine {
         op: Op,
         width: u8,
         from: u32,
-        skip: u8,
+        next: u64,
     ) -> Option<Exit>
         requires register { register < 13 }
         requires loads { IsTrue (alu.is_load op) }
         requires width { alu.loaded_bytes op ≡ width }
         requires size { IsTrue (is_width width) }
-        requires place { self.old.pc < 2 ^ 63 }
-        requires skip { skip ≡ blob.skip self.old.program self.old.pc }
+        requires next { next ≡ blob.next self.old.program self.old.pc }
         ensures acts { after_of self.new result ≡ after self.old.program (state_of self.old) (Loads register op from) }
-        ensures program { self.new.program ≡ self.old.program }
-        ensures gas { self.new.gas ≡ self.old.gas }
+        ensures rest { ChangesStateAlone self.old self.new }
     {
         match self.memory.load(from, width) {
             Ok(raw) => {
-                let next = self.next(skip);
                 self.give(register, widen(op, raw), next);
                 None
             }
@@ -129,19 +114,16 @@ impl Machine {
         width: u8,
         to: u32,
         value: u64,
-        skip: u8,
+        next: u64,
     ) -> Result<Option<Exit>, AllocError>
         requires size { IsTrue (is_width width) }
-        requires place { self.old.pc < 2 ^ 63 }
-        requires skip { skip ≡ blob.skip self.old.program self.old.pc }
+        requires next { next ≡ blob.next self.old.program self.old.pc }
         ensures acts { IfOk result (λ exit. after_of self.new exit ≡ after self.old.program (state_of self.old) (Stores width to value)) }
-        ensures program { self.new.program ≡ self.old.program }
-        ensures gas { self.new.gas ≡ self.old.gas }
+        ensures rest { ChangesStateAlone self.old self.new }
         ensures err { OnErr result (self.new ≡ self.old) }
     {
         match self.memory.store(to, width, value) {
             Ok(()) => {
-                let next = self.next(skip);
                 self.go_on(next);
                 Ok(None)
             }
@@ -152,19 +134,18 @@ impl Machine {
 
     /// Jumps to a target, where a block begins there.
     #[inline(always)]
-    pub(crate) fn jump(&mut self, target: Option<u64>) -> Went
+    pub(crate) fn jump(&mut self, target: Option<u64>) -> Attempt
         ensures landed { after_of self.new (exit_after result) ≡ lands (state_of self.old) (jump_to self.old.program target) }
         ensures done { is_done result ≡ true }
-        ensures next { result ≡ On → self.new.pc ≡ blob.next self.old.program self.old.pc }
-        ensures program { self.new.program ≡ self.old.program }
-        ensures gas { self.new.gas ≡ self.old.gas }
+        ensures next { result ≡ Next → self.new.pc ≡ blob.next self.old.program self.old.pc }
+        ensures rest { ChangesStateAlone self.old self.new }
     {
         match target {
             Some(place) if self.program.is_start(place) => {
                 self.pc = place;
-                Went::Jumped
+                Attempt::Jumped
             }
-            _ => Went::Panics,
+            _ => Attempt::Panics,
         }
     }
 
@@ -172,8 +153,7 @@ impl Machine {
     #[inline]
     pub(crate) fn jump_through(&mut self, address: u32) -> Option<Exit>
         ensures landed { after_of self.new result ≡ lands (state_of self.old) (jump_through self.old.program address) }
-        ensures program { self.new.program ≡ self.old.program }
-        ensures gas { self.new.gas ≡ self.old.gas }
+        ensures rest { ChangesStateAlone self.old self.new }
     {
         if u64::from(address) == HALT_ADDRESS {
             return Some(Exit::Halt);
@@ -183,7 +163,7 @@ impl Machine {
         }
         let target = self.program.jump_at(u64::from(address) / 2 - 1);
         match self.jump(target) {
-            Went::Panics => Some(Exit::Panic),
+            Attempt::Panics => Some(Exit::Panic),
             _ => None,
         }
     }
@@ -191,19 +171,18 @@ impl Machine {
     /// Jumps to a target where the test holds.
     #[inline(always)]
     #[tactic(auto, unfolding(crate::specs::Effect::after))]
-    pub(crate) fn branch(&mut self, taken: bool, target: Option<u64>, next: u64) -> Went
+    pub(crate) fn branch(&mut self, taken: bool, target: Option<u64>, next: u64) -> Attempt
         requires next { next ≡ blob.next self.old.program self.old.pc }
         ensures acts { after_of self.new (exit_after result) ≡ after self.old.program (state_of self.old) (Branches taken target) }
         ensures done { is_done result ≡ true }
-        ensures next { result ≡ On → self.new.pc ≡ blob.next self.old.program self.old.pc }
-        ensures program { self.new.program ≡ self.old.program }
-        ensures gas { self.new.gas ≡ self.old.gas }
+        ensures next { result ≡ Next → self.new.pc ≡ blob.next self.old.program self.old.pc }
+        ensures rest { ChangesStateAlone self.old self.new }
     {
         if taken {
             return self.jump(target);
         }
         self.go_on(next);
-        Went::On
+        Attempt::Next
     }
 
     /// Sets a register.
@@ -220,8 +199,7 @@ impl Machine {
         requires some { 0 < amount }
         requires room { self.old.heap.next + amount ≤ self.old.heap.end }
         ensures grown { OnOk result (state_of self.new ≡ grown (state_of self.old) amount) }
-        ensures program { self.new.program ≡ self.old.program }
-        ensures gas { self.new.gas ≡ self.old.gas }
+        ensures rest { ChangesStateAlone self.old self.new }
         ensures err { OnErr result (self.new ≡ self.old) }
     {
         let next = self.heap.next();
@@ -236,16 +214,13 @@ impl Machine {
 
     /// Grows the heap by an amount, and sets a register to where its next byte was.
     #[tactic(auto, unfolding(crate::specs::Effect::after))]
-    pub(crate) fn grow(&mut self, register: u8, amount: u64, skip: u8) -> Result<(), AllocError>
+    pub(crate) fn grow(&mut self, register: u8, amount: u64, next: u64) -> Result<(), AllocError>
         requires register { register < 13 }
-        requires place { self.old.pc < 2 ^ 63 }
-        requires skip { skip ≡ blob.skip self.old.program self.old.pc }
+        requires next { next ≡ blob.next self.old.program self.old.pc }
         ensures acts { OnOk result (after_of self.new None ≡ after self.old.program (state_of self.old) (Grows register amount)) }
-        ensures program { self.new.program ≡ self.old.program }
-        ensures gas { self.new.gas ≡ self.old.gas }
+        ensures rest { ChangesStateAlone self.old self.new }
         ensures err { OnErr result (self.new ≡ self.old) }
     {
-        let next = self.next(skip);
         let from = self.heap.next();
         let room = self.heap.end() - from;
         if amount == 0 {

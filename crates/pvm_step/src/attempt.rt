@@ -3,9 +3,9 @@
 /// What came of an attempt to do an instruction on the registers alone. It fits a processor's
 /// register, so that the run's loop moves no exit.
 #[derive(Clone, Copy, Debug, PartialEq, Eq)]
-pub enum Went {
+pub enum Attempt {
     /// It was done, and the next instruction follows.
-    On,
+    Next,
     /// It was done, and led elsewhere.
     Jumped,
     /// It was done, and it panics.
