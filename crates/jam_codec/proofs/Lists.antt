@@ -1,5 +1,5 @@
 -- The laws of blobs, lists, maps and values that may be absent.
-use Rattle.std.proofs.Common.{◌≡◌, ℕ, zero, suc, ◌^◌, ◌<◌, ◌≤◌, Bool, true, false, ◌&&◌, List, [], ◌∷◌, ◌++◌, length, refl, sym, ap, ◌∙◌, subst, arith, Option, Some, None, Ok, Err, nat_lt, nat_le, if◌then◌else◌}
+use Rattle.std.proofs.Common.{◌≡◌, ℕ, zero, suc, ◌^◌, ◌<◌, ◌≤◌, Bool, true, false, ◌&&◌, ◌==◌, List, [], ◌∷◌, ◌++◌, length, length-append, refl, sym, ap, ◌∙◌, subst, arith, Option, Some, None, Ok, Err, nat_lt, nat_le, if◌then◌else◌}
 use Rattle.std.specs.Prelude.{T}
 use Rattle.std.specs.Option.{option_map, is_some}
 use Rattle.std.specs.declared.cmp.Ordering.{Ordering}
@@ -11,9 +11,12 @@ use Rattle.std.specs.FinMap as fin
 use Rattle.std.specs.FinMap.Entries.{below_all, is_sorted}
 use Rattle.std.proofs.lemmas.Cmp.{nat_cmp_total, nat_list_cmp_total, on_total, then_total}
 use Rattle.std.proofs.lemmas.Bool.{leb-true, lt-leb}
+use Rattle.std.proofs.lemmas.Bool.Decides.{nat_tests}
+use Rattle.jam_codec.specs.Spelling.{little_endian}
+use Rattle.jam_codec.proofs.Numbers.{length-little_endian}
 use Rattle.jam_codec.specs.Reading.{Reading, Takes, natural_at, bytes_at, fixed_at}
 use Rattle.jam_codec.specs.Format.{Format, any, both, times, natural_where, fixed_where, bytes_where, items_fit}
-use Rattle.jam_codec.specs.Lists.{blob_where, list_of, entry_of, map_of, fin_map_of, follows, blob_after, blob_by_after, number_after, hash_and_number_cmp, is_hash_from, hash_and_number_after, nothing, option_tag, some_of, behind_tag, option_of}
+use Rattle.jam_codec.specs.Lists.{blob_where, list_of, entry_of, map_of, fin_map_of, follows, blob_after, blob_by_after, number_after, hash_and_number_cmp, is_hash_from, hash_and_number_after, nothing, option_tag, some_of, behind_tag, option_of, behind_one}
 use Rattle.jam_codec.specs.Laws.{IsFormat}
 use Rattle.jam_codec.proofs.Formats.{ok_parts, read_here, both_laws, same_laws, by_laws, times_laws, length-items}
 use Rattle.jam_codec.proofs.Fields.{natural_laws, fixed_laws, bytes_laws}
@@ -144,6 +147,20 @@ module _ {A : Type 0} (f : Format A) (F : IsFormat f) where
       by_laws (λ p. p.1) (λ x. (is_some x, x)) (both option_tag (behind_tag f)) (both_laws option_tag (behind_tag f) option_tag_laws behind_tag_laws)
       (λ p h. tagged p.0 p.1 h.1)
       (λ x h. refl)
+
+-- a value behind the byte 1
+one_is : (tag : ℕ) → (tag == 1) ≡ true → 1 ≡ tag
+one_is tag e = grind (arith, nat_tests)
+
+module _ {A : Type 0} (f : Format A) (F : IsFormat f) where
+  pub behind_one_laws : IsFormat (behind_one f)
+  behind_one_laws =
+      by_laws (λ p. p.1) (λ x. (1, x)) (both (fixed_where 1 (λ tag. tag == 1)) (λ tag. f)) (both_laws (fixed_where 1 (λ tag. tag == 1)) (λ tag. f) (fixed_laws 1 (λ tag. tag == 1)) (λ tag. F))
+      (λ p h. ap (λ (n : ℕ). (n, p.1)) (one_is p.0 h.0.1))
+      (λ x h. refl)
+
+  pub behind_one_some : (x : A) → (behind_one f).Fits x → 0 < length ((behind_one f).spell x)
+  behind_one_some x h = omega (arith, length-append (little_endian 1 1) (f.spell x), length-little_endian 1 1)
 
 -- the entries of a map are sorted
 and_holds : (a b : Bool) → T a → T b → T (a && b)

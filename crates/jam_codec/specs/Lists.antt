@@ -1,5 +1,5 @@
 -- Formats of blobs, lists, maps and values that may be absent, put together from fields.
-use Rattle.std.specs.Prelude.{ℕ, Bool, true, false, List, [], ◌++◌, length, Result, Ok, Option, Some, None, if◌then◌else◌, nat_lt, nat_le, ◌≡◌, ◌+◌, ◌^◌, ◌<◌, ◌⊎◌}
+use Rattle.std.specs.Prelude.{ℕ, Bool, true, false, List, [], ◌++◌, length, Result, Ok, Option, Some, None, if◌then◌else◌, nat_lt, nat_le, ◌==◌, ◌≡◌, ◌+◌, ◌^◌, ◌<◌, ◌⊎◌}
 use Rattle.std.specs.Option.{option_map, is_some}
 use Rattle.std.specs.FinMap as fin
 use Rattle.std.specs.declared.cmp.Ordering.{Ordering}
@@ -95,6 +95,10 @@ behind_tag f false = nothing None
 -- a tag, and the value where it says that one follows
 abbrev pub option_of : {A : Type 0} → Format A → Format (Option A)
 option_of f = by (λ p. p.1) (λ x. (is_some x, x)) (both option_tag (behind_tag f))
+
+-- the byte 1, and a value
+abbrev pub behind_one : {A : Type 0} → Format A → Format A
+behind_one f = by (λ p. p.1) (λ x. (1, x)) (both (fixed_where 1 (λ tag. tag == 1)) (λ tag. f))
 
 -- ---- A whole file whose last part may be missing
 

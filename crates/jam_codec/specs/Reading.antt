@@ -78,3 +78,8 @@ Refuses (Some place) read = read ≡ Err place
 abbrev pub Reads : {X Y E : Type 0} → (E → Option ℕ) → (X → Y) → Result X E → Reading → Result (Y × Reading) ℕ → Type 0
 Reads place view (Ok x) new read = read ≡ Ok (view x, new)
 Reads place view (Err e) new read = Refuses (place e) read
+
+-- the same of a whole file
+abbrev pub ReadsWhole : {X E : Type 0} → (E → Option ℕ) → Result X E → Result X ℕ → Type 0
+ReadsWhole place (Ok x) read = read ≡ Ok x
+ReadsWhole place (Err e) read = Refuses (place e) read

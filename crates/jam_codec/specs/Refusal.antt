@@ -1,5 +1,5 @@
 -- What the refusal of a file says.
-use Rattle.std.specs.Prelude.{ℕ, Result, Ok, Err, Option, Some, None, IfErr, IfSome}
+use Rattle.std.specs.Prelude.{ℕ, Result, Option, Some, None, IfErr, IfSome}
 use Rattle.jam_codec.specs.declared.refusal.FileRefusal.{FileRefusal}
 use Rattle.jam_codec.specs.declared.refusal.FileRefusal.TheVariants.{Malformed, NoMemory}
 
