@@ -1,8 +1,10 @@
 //! Files of batches, byte by byte.
 use batch_file::{
-    Batch, Deliveries, Delivery, Report, ReportItems, Reports, WorkResult, read_batch, write_batch,
+    Batch, Deliveries, Delivery, Report, ReportItems, Reports, WorkResult, push_delivery,
+    push_report, read_batch, take_delivery, take_report, write_batch,
 };
-use jam_codec::FileRefusal;
+use gas_ledger::Schedule;
+use jam_codec::{Cursor, FileRefusal};
 use jam_fields::{Blob, read_file, write_file};
 use std::alloc::{AllocError, Global};
 
@@ -49,6 +51,7 @@ fn reads_and_writes_an_empty_batch(rt: HostRuntime) -> Result<(), FileRefusal> {
     assert!(rt; batch.preimages.as_slice().is_empty());
     assert!(rt; batch.reports.as_slice().is_empty());
     assert!(rt; batch.reports.into_vec().is_empty());
+    assert!(rt; batch.schedule.is_none());
     Ok(())
 }
 
@@ -56,15 +59,97 @@ fn reads_and_writes_an_empty_batch(rt: HostRuntime) -> Result<(), FileRefusal> {
 fn bytes_that_spell_no_batch(rt: HostRuntime) {
     let mut one_report = EMPTY;
     one_report[44] = 1;
-    let mut one_more = [0; 47];
-    one_more[..46].copy_from_slice(&EMPTY);
-    let table: [(&[u8], u64); 2] = [(&one_report, 44), (&one_more, 46)];
+    // A count of 2^64 - 1 deliveries, and nothing behind it.
+    let mut many = [0xff; 54];
+    many[..45].copy_from_slice(&EMPTY[..45]);
+    let table: [(&[u8], u64); 2] = [(&one_report, 44), (&many, 54)];
     for (bytes, place) in table {
         let refusal = refusal_of(rt.alloc(), bytes);
         assert!(rt;
             refusal == Some(FileRefusal::Malformed { place }),
             "to {place}"
         );
+    }
+}
+
+// The empty batch and a schedule: the forms cost 1 to 13, the calls 0x10a to 0x125.
+fn scheduled() -> [u8; 116] {
+    let mut bytes = [1; 116];
+    bytes[..46].copy_from_slice(&EMPTY);
+    for form in 0..13u8 {
+        bytes[usize::from(47 + form)] = form + 1;
+    }
+    for call in 0..28u8 {
+        bytes[usize::from(60 + 2 * call)] = call + 10;
+    }
+    bytes
+}
+
+#[test]
+fn a_batch_with_a_schedule(rt: HostRuntime) -> Result<(), FileRefusal> {
+    let bytes = scheduled();
+    let again = written_again(rt.alloc(), &bytes)?;
+    assert!(rt; again.as_slice() == bytes.as_slice());
+    let batch = read_batch(rt.alloc(), &bytes)?;
+    assert_eq!(rt; batch.slot, 7);
+    let calls = [
+        0x10a, 0x10b, 0x10c, 0x10d, 0x10e, 0x10f, 0x110, 0x111, 0x112, 0x113, 0x114, 0x115, 0x116,
+        0x117, 0x118, 0x119, 0x11a, 0x11b, 0x11c, 0x11d, 0x11e, 0x11f, 0x120, 0x121, 0x122, 0x123,
+        0x124, 0x125,
+    ];
+    let wanted = Schedule::of([1, 2, 3, 4, 5, 6, 7, 8, 9, 10, 11, 12, 13], calls);
+    assert!(rt; wanted.is_some());
+    assert!(rt; batch.schedule == wanted);
+    Ok(())
+}
+
+// Why the bytes of that batch with another at one place spell none.
+fn refusal_with_cost(alloc: Global, at: usize, byte: u8) -> Option<FileRefusal> {
+    let mut bytes = scheduled();
+    if let Some(place) = bytes.get_mut(at) {
+        *place = byte;
+    }
+    refusal_of(alloc, &bytes)
+}
+
+#[test]
+fn costs_that_do_not_spell(rt: HostRuntime) {
+    // The tag; a form's cost of 0; a call's of 9 + 256 and of 9.
+    let table: [(usize, u8, Option<u64>); 6] = [
+        (46, 0, Some(46)),
+        (46, 2, Some(46)),
+        (47, 0, Some(47)),
+        (59, 0, Some(59)),
+        (60, 9, None),
+        (115, 0, None),
+    ];
+    for (at, byte, wanted) in table {
+        let refusal = refusal_with_cost(rt.alloc(), at, byte);
+        let wanted = wanted.map(|place| FileRefusal::Malformed { place });
+        assert!(rt; refusal == wanted, "at {at}");
+    }
+    let mut nine = scheduled();
+    nine[114] = 9;
+    nine[115] = 0;
+    let refusal = refusal_of(rt.alloc(), &nine);
+    assert!(rt; refusal == Some(FileRefusal::Malformed { place: 114 }));
+}
+
+// A schedule has two prefixes that spell a batch: without it, and whole. Bytes behind it spell none.
+#[test]
+fn a_schedule_is_there_whole_or_not_at_all(rt: HostRuntime) {
+    let mut longer = [0; 117];
+    longer[..116].copy_from_slice(&scheduled());
+    for length in 46..118usize {
+        let refusal = refusal_of(rt.alloc(), &longer[..length]);
+        let wanted = match length {
+            46 | 116 => None,
+            47..=59 => Some(length as u64),
+            60..=115 => Some(length as u64 / 2 * 2),
+            _ => Some(116),
+        };
+        let wanted = wanted.map(|place| FileRefusal::Malformed { place });
+        assert!(rt; refusal == wanted, "of {length}");
     }
 }
 
@@ -104,6 +189,7 @@ fn delivering(alloc: Global) -> Result<Batch, FileRefusal> {
         gas: 1000,
         reports: Reports::new(Vec::new(alloc)),
         preimages: Deliveries::new(deliveries),
+        schedule: None,
     })
 }
 
@@ -172,5 +258,53 @@ fn results_by_their_tags(rt: HostRuntime) -> Result<(), FileRefusal> {
             "to {place}"
         );
     }
+    Ok(())
+}
+
+// The first delivery of these bytes, pushed again behind a byte, and the place after it.
+fn delivery_again(alloc: Global, bytes: &[u8]) -> Result<(Vec<u8>, u64), FileRefusal> {
+    let mut cursor = Cursor::new(bytes);
+    let delivery = take_delivery(alloc, &mut cursor)?;
+    let mut out = Vec::from_slice(alloc, &[0x77])?;
+    push_delivery(&mut out, &delivery)?;
+    Ok((out, cursor.place()))
+}
+
+#[test]
+fn a_delivery_is_taken_and_pushed(rt: HostRuntime) -> Result<(), FileRefusal> {
+    let (out, place) = delivery_again(rt.alloc(), &[5, 0, 0, 0, 2, 0xaa, 0xbb, 1])?;
+    assert!(rt; out.as_slice() == [0x77, 5, 0, 0, 0, 2, 0xaa, 0xbb].as_slice());
+    assert_eq!(rt; place, 7);
+    let table: [(&[u8], u64); 3] = [
+        (&[5, 0, 0], 0),
+        (&[5, 0, 0, 0], 4),
+        (&[5, 0, 0, 0, 2, 1], 5),
+    ];
+    for (bytes, place) in table {
+        let refusal = delivery_again(rt.alloc(), bytes).err();
+        assert!(rt;
+            refusal == Some(FileRefusal::Malformed { place }),
+            "to {place}"
+        );
+    }
+    Ok(())
+}
+
+// The report of these bytes, pushed again behind a byte, and the place after it.
+fn report_pushed(alloc: Global, bytes: &[u8]) -> Result<(Vec<u8>, u64), FileRefusal> {
+    let mut cursor = Cursor::new(bytes);
+    let report = take_report(alloc, &mut cursor)?;
+    let mut out = Vec::from_slice(alloc, &[0x77])?;
+    push_report(&mut out, &report)?;
+    Ok((out, cursor.place()))
+}
+
+#[test]
+fn a_report_is_taken_and_pushed(rt: HostRuntime) -> Result<(), FileRefusal> {
+    let (out, place) = report_pushed(rt.alloc(), &RESULTS)?;
+    assert_eq!(rt; (out.first(), out.len(), place), (Some(&0x77), 216, 215));
+    assert!(rt; out.ends_with(&RESULTS));
+    let refusal = report_pushed(rt.alloc(), &RESULTS[..77]).err();
+    assert!(rt; refusal == Some(FileRefusal::Malformed { place: 77 }));
     Ok(())
 }
