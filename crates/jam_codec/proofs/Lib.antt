@@ -6,3 +6,4 @@ pub mod Formats
 pub mod Fields
 pub mod Whole
 pub mod Lists
+pub mod FormatLaws

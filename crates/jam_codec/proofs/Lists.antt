@@ -1,5 +1,5 @@
 -- The laws of blobs, lists, maps and values that may be absent.
-use Rattle.std.proofs.Common.{◌≡◌, ℕ, zero, suc, ◌^◌, ◌<◌, ◌≤◌, Bool, true, false, ◌&&◌, List, [], ◌∷◌, ◌++◌, length, refl, sym, ap, ◌∙◌, subst, arith, Option, Some, None, Ok, Err, nat_lt, nat_le, if◌then◌else◌}
+use Rattle.std.proofs.Common.{◌≡◌, ℕ, zero, suc, ◌^◌, ◌<◌, ◌≤◌, Bool, true, false, ◌&&◌, ◌==◌, List, [], ◌∷◌, ◌++◌, length, length-append, refl, sym, ap, ◌∙◌, subst, arith, Option, Some, None, Ok, Err, nat_lt, nat_le, if◌then◌else◌}
 use Rattle.std.specs.Prelude.{T}
 use Rattle.std.specs.Option.{option_map, is_some}
 use Rattle.std.specs.declared.cmp.Ordering.{Ordering}
@@ -11,9 +11,12 @@ use Rattle.std.specs.FinMap as fin
 use Rattle.std.specs.FinMap.Entries.{below_all, is_sorted}
 use Rattle.std.proofs.lemmas.Cmp.{nat_cmp_total, nat_list_cmp_total, on_total, then_total}
 use Rattle.std.proofs.lemmas.Bool.{leb-true, lt-leb}
+use Rattle.std.proofs.lemmas.Bool.Decides.{nat_tests}
+use Rattle.jam_codec.specs.Spelling.{little_endian}
+use Rattle.jam_codec.proofs.Numbers.{length-little_endian}
 use Rattle.jam_codec.specs.Reading.{Reading, Takes, natural_at, bytes_at, fixed_at}
 use Rattle.jam_codec.specs.Format.{Format, any, both, times, natural_where, fixed_where, bytes_where, items_fit}
-use Rattle.jam_codec.specs.Lists.{blob_where, list_of, entry_of, map_of, fin_map_of, follows, blob_after, blob_by_after, number_after, hash_and_number_cmp, is_hash_from, hash_and_number_after, nothing, option_tag, some_of, given, option_of}
+use Rattle.jam_codec.specs.Lists.{blob_where, list_of, entry_of, map_of, fin_map_of, follows, blob_after, blob_by_after, number_after, hash_and_number_cmp, is_hash_from, hash_and_number_after, nothing, option_tag, some_of, behind_tag, option_of, behind_one}
 use Rattle.jam_codec.specs.Laws.{IsFormat}
 use Rattle.jam_codec.proofs.Formats.{ok_parts, read_here, both_laws, same_laws, by_laws, times_laws, length-items}
 use Rattle.jam_codec.proofs.Fields.{natural_laws, fixed_laws, bytes_laws}
@@ -29,11 +32,11 @@ blob_laws test =
     (λ p h. ap (λ (n : ℕ). (n, p.1)) h.1.0)
     (λ bytes h. refl)
 
-module _ {A : Type 0} (limit : ℕ) (g : Option A → Format A) (G : (last : Option A) → IsFormat (g last)) where
-  pub list_laws : IsFormat (list_of limit g)
+module _ {A : Type 0} (test : ℕ → Bool) (g : Option A → Format A) (G : (last : Option A) → IsFormat (g last)) where
+  pub list_laws : IsFormat (list_of test g)
   list_laws =
-      by_laws (λ p. p.1) (λ xs. (length xs, xs)) (both (natural_where (λ n. nat_le n limit)) (times g))
-      (both_laws (natural_where (λ n. nat_le n limit)) (times g) (natural_laws (λ n. nat_le n limit)) (times_laws g G))
+      by_laws (λ p. p.1) (λ xs. (length xs, xs)) (both (natural_where test) (times g))
+      (both_laws (natural_where test) (times g) (natural_laws test) (times_laws g G))
       (λ p h. ap (λ (n : ℕ). (n, p.1)) (length-items g p.0 None p.1 h.1))
       (λ xs h. refl)
 
@@ -41,8 +44,8 @@ module _ {K V : Type 0} (key : Option K → Format K) (value : Format V) (Key : 
   pub entry_laws : (last : Option (K × V)) → IsFormat (entry_of key value last)
   entry_laws last = both_laws (key (option_map (λ entry. entry.0) last)) (λ k. value) (Key (option_map (λ entry. entry.0) last)) (λ k. Value)
 
-  pub map_laws : (limit : ℕ) → IsFormat (map_of limit key value)
-  map_laws limit = list_laws limit (entry_of key value) entry_laws
+  pub map_laws : IsFormat (map_of key value)
+  map_laws = list_laws any (entry_of key value) entry_laws
 
 -- keys that ascend
 pub blob_after_laws : (last : Option (List ℕ)) → IsFormat (blob_after last)
@@ -130,20 +133,34 @@ module _ {A : Type 0} (f : Format A) (F : IsFormat f) where
     reads = λ r. refl;
   })
 
-  given_laws : (present : Bool) → IsFormat (given f present)
-  given_laws true = some_laws
-  given_laws false = nothing_laws None
+  behind_tag_laws : (present : Bool) → IsFormat (behind_tag f present)
+  behind_tag_laws true = some_laws
+  behind_tag_laws false = nothing_laws None
 
-  tagged : (present : Bool) (x : Option A) → (given f present).Fits x → (let p : Bool × Option A = (is_some x, x) in p) ≡ (present, x)
+  tagged : (present : Bool) (x : Option A) → (behind_tag f present).Fits x → (let p : Bool × Option A = (is_some x, x) in p) ≡ (present, x)
   tagged true None h = absurd h
   tagged true (Some a) h = refl
   tagged false x h = rw h refl
 
   pub option_laws : IsFormat (option_of f)
   option_laws =
-      by_laws (λ p. p.1) (λ x. (is_some x, x)) (both option_tag (given f)) (both_laws option_tag (given f) option_tag_laws given_laws)
+      by_laws (λ p. p.1) (λ x. (is_some x, x)) (both option_tag (behind_tag f)) (both_laws option_tag (behind_tag f) option_tag_laws behind_tag_laws)
       (λ p h. tagged p.0 p.1 h.1)
       (λ x h. refl)
+
+-- a value behind the byte 1
+one_is : (tag : ℕ) → (tag == 1) ≡ true → 1 ≡ tag
+one_is tag e = grind (arith, nat_tests)
+
+module _ {A : Type 0} (f : Format A) (F : IsFormat f) where
+  pub behind_one_laws : IsFormat (behind_one f)
+  behind_one_laws =
+      by_laws (λ p. p.1) (λ x. (1, x)) (both (fixed_where 1 (λ tag. tag == 1)) (λ tag. f)) (both_laws (fixed_where 1 (λ tag. tag == 1)) (λ tag. f) (fixed_laws 1 (λ tag. tag == 1)) (λ tag. F))
+      (λ p h. ap (λ (n : ℕ). (n, p.1)) (one_is p.0 h.0.1))
+      (λ x h. refl)
+
+  pub behind_one_some : (x : A) → (behind_one f).Fits x → 0 < length ((behind_one f).spell x)
+  behind_one_some x h = omega (arith, length-append (little_endian 1 1) (f.spell x), length-little_endian 1 1)
 
 -- the entries of a map are sorted
 and_holds : (a b : Bool) → T a → T b → T (a && b)
@@ -194,13 +211,13 @@ module _ {K V : Type 0} (R : K → K → Ordering) (total : IsTotalOrder R) wher
         let rest : T (below_all R e.0 es) × T (is_sorted R es) = rest_sorted n e es h.1 in
         and_holds (below_all R e.0 es) (is_sorted R es) rest.0 rest.1
 
-    pub map_sorted : (limit : ℕ) (es : List (K × V)) → (map_of limit key value).Fits es → T (is_sorted R es)
-    map_sorted limit es h = entries_sorted (length es) es h.1
+    pub map_sorted : (es : List (K × V)) → (map_of key value).Fits es → T (is_sorted R es)
+    map_sorted es h = entries_sorted (length es) es h.1
 
-    pub fin_map_laws : ((last : Option K) → IsFormat (key last)) → IsFormat value → (limit : ℕ) → IsFormat (fin_map_of R limit key value)
-    fin_map_laws Key Value limit =
-        by_laws (fin.from_sorted {R = R}) fin.entries (map_of limit key value) (map_laws key value Key Value limit)
-        (λ es h. fin.entries-from_sorted R es (map_sorted limit es h))
+    pub fin_map_laws : ((last : Option K) → IsFormat (key last)) → IsFormat value → IsFormat (fin_map_of R key value)
+    fin_map_laws Key Value =
+        by_laws (fin.from_sorted {R = R}) fin.entries (map_of key value) (map_laws key value Key Value)
+        (λ es h. fin.entries-from_sorted R es (map_sorted es h))
         (λ m h. fin.same_entries_map (fin.from_sorted {R = R} (fin.entries m)) m (fin.entries-from_sorted R (fin.entries m) (fin.entries_sorted m)))
 
 -- what a refused blob and a refused tag say

@@ -1,7 +1,7 @@
 -- What holds of each format.
-use Rattle.std.specs.Prelude.{◌≡◌, ℕ, ◌+◌, ◌<◌, ◌≤◌, List, ◌++◌, length, get_or, Result, Ok, Err}
+use Rattle.std.specs.Prelude.{◌≡◌, ℕ, ◌+◌, ◌<◌, ◌≤◌, List, ◌++◌, length, get_or, Result, Ok, Err, ◌⊎◌}
 use Rattle.jam_codec.specs.Reading.{Reading, Takes}
-use Rattle.jam_codec.specs.Format.{Format, Spells, from}
+use Rattle.jam_codec.specs.Format.{Format, Spells, from, whole}
 
 abbrev pub AreBytes : List ℕ → Type 0
 AreBytes bytes = (k : ℕ) → get_or bytes k 0 < 256
@@ -29,6 +29,17 @@ pub record IsFormat {A : Type 0} (f : Format A) : Type 0 where
   -- a refusal's place is the end of the longest run
   pub refused : (r : Reading) (place : ℕ) → AreBytes r.rest → f.read r ≡ Err place → Longest f.Run r place
 
+-- what holds of a format where its value is a whole file, and nothing follows it
+pub record IsFileFormat {A : Type 0} (f : Format A) : Type 0 where
+  pub again : (x : A) → f.Fits x → whole f (f.spell x) ≡ Ok x
+  pub found : (bytes : List ℕ) (x : A) → AreBytes bytes → whole f bytes ≡ Ok x → Spells f x bytes
+  -- a refusal's place is the end of the longest run, which may be the end of a whole value
+  pub refused : (bytes : List ℕ) (place : ℕ) → AreBytes bytes → whole f bytes ≡ Err place → Longest f.Run (from 0 bytes) place
+
+-- no value has these bytes as its spelling
+abbrev pub SpellsNone : {A : Type 0} → Format A → List ℕ → Type 0
+SpellsNone {A} f bytes = (x : A) → Spells f x bytes → ⊥
+
 -- each value has one spelling, and bytes spell one value
 abbrev pub HasOneSpelling : {A : Type 0} → Format A → Type 0
 HasOneSpelling {A} f = (x y : A) (bytes : List ℕ) → Spells f x bytes → Spells f y bytes → x ≡ y
@@ -36,3 +47,7 @@ HasOneSpelling {A} f = (x y : A) (bytes : List ℕ) → Spells f x bytes → Spe
 -- no spelling begins another: where one stands before other bytes, nothing is left over
 abbrev pub HasNoPrefix : {A : Type 0} → Format A → Type 0
 HasNoPrefix {A} f = (x y : A) (bytes more : List ℕ) → Spells f x bytes → Spells f y (bytes ++ more) → length more ≡ 0
+
+-- the one spelling that may begin another is that of the same value without its last part
+abbrev pub HasOnePrefix : {A : Type 0} → Format A → (A → A) → Type 0
+HasOnePrefix {A} f without = (x y : A) (bytes more : List ℕ) → Spells f x bytes → Spells f y (bytes ++ more) → (length more ≡ 0) ⊎ (x ≡ without y)

@@ -3,3 +3,4 @@ pub mod Reading
 pub mod Format
 pub mod Lists
 pub mod Laws
+pub mod Refusal

@@ -1,5 +1,5 @@
 -- Formats of blobs, lists, maps and values that may be absent, put together from fields.
-use Rattle.std.specs.Prelude.{ℕ, Bool, true, false, List, [], ◌++◌, length, Ok, Option, Some, None, if◌then◌else◌, nat_lt, nat_le, ◌≡◌, ◌+◌, ◌^◌, ◌<◌, ◌⊎◌}
+use Rattle.std.specs.Prelude.{ℕ, Bool, true, false, List, [], ◌++◌, length, Result, Ok, Option, Some, None, if◌then◌else◌, nat_lt, nat_le, ◌==◌, ◌≡◌, ◌+◌, ◌^◌, ◌<◌, ◌⊎◌}
 use Rattle.std.specs.Option.{option_map, is_some}
 use Rattle.std.specs.FinMap as fin
 use Rattle.std.specs.declared.cmp.Ordering.{Ordering}
@@ -18,20 +18,25 @@ abbrev pub HasNoBlob : Reading → ℕ → Type 0
 HasNoBlob r place = ((place ≡ r.place) × ((n : ℕ) (tail : List ℕ) → n < 2 ^ 64 → r.rest ≡ natural n ++ tail → ⊥))
     ⊎ ((n : ℕ) × (tail : List ℕ) × (n < 2 ^ 64) × (r.rest ≡ natural n ++ tail) × (length tail < n) × (place ≡ r.place + length (natural n)))
 
--- a count up to a limit, and so many items, each in the format that the one before it asks for
-abbrev pub list_of : {A : Type 0} → ℕ → (Option A → Format A) → Format (List A)
-list_of limit g = by (λ p. p.1) (λ xs. (length xs, xs)) (both (natural_where (λ n. nat_le n limit)) (times g))
+-- a count up to a limit
+abbrev pub up_to : ℕ → ℕ → Bool
+up_to limit n = nat_le n limit
+
+-- a count that passes a test, and so many items, each in the format that the one before it asks for
+abbrev pub list_of : {A : Type 0} → (ℕ → Bool) → (Option A → Format A) → Format (List A)
+list_of test g = by (λ p. p.1) (λ xs. (length xs, xs)) (both (natural_where test) (times g))
 
 -- an entry of a map: a key in the format that the key before it asks for, and a value
 abbrev pub entry_of : {K V : Type 0} → (Option K → Format K) → Format V → Option (K × V) → Format (K × V)
 entry_of key value last = both (key (option_map (λ entry. entry.0) last)) (λ k. value)
 
-abbrev pub map_of : {K V : Type 0} → ℕ → (Option K → Format K) → Format V → Format (List (K × V))
-map_of limit key value = list_of limit (entry_of key value)
+-- any count, and so many entries
+abbrev pub map_of : {K V : Type 0} → (Option K → Format K) → Format V → Format (List (K × V))
+map_of key value = list_of any (entry_of key value)
 
 -- the entries, seen as a finite map
-abbrev pub fin_map_of : {K V : Type 0} → (R : K → K → Ordering) → ℕ → (Option K → Format K) → Format V → Format (fin.FinMap R V)
-fin_map_of R limit key value = by (fin.from_sorted {R = R}) fin.entries (map_of limit key value)
+abbrev pub fin_map_of : {K V : Type 0} → (R : K → K → Ordering) → (Option K → Format K) → Format V → Format (fin.FinMap R V)
+fin_map_of R key value = by (fin.from_sorted {R = R}) fin.entries (map_of key value)
 
 -- whether a key stands above the one before it, where there is one
 abbrev pub follows : {K : Type 0} → (K → K → Ordering) → Option K → K → Bool
@@ -82,11 +87,34 @@ some_spelled f (Some x) = f.spell x
 abbrev pub some_of : {A : Type 0} → Format A → Format (Option A)
 some_of f = record { Fits = some_fits f; spell = some_spelled f; Run = f.Run; read = λ r. f.read r >>= λ x. Ok (Some x.0, x.1) }
 
--- what the tag says of the value
-abbrev pub given : {A : Type 0} → Format A → Bool → Format (Option A)
-given f true = some_of f
-given f false = nothing None
+-- what is behind a tag: the value where it says that one follows, else no field
+abbrev pub behind_tag : {A : Type 0} → Format A → Bool → Format (Option A)
+behind_tag f true = some_of f
+behind_tag f false = nothing None
 
 -- a tag, and the value where it says that one follows
 abbrev pub option_of : {A : Type 0} → Format A → Format (Option A)
-option_of f = by (λ p. p.1) (λ x. (is_some x, x)) (both option_tag (given f))
+option_of f = by (λ p. p.1) (λ x. (is_some x, x)) (both option_tag (behind_tag f))
+
+-- the byte 1, and a value
+abbrev pub behind_one : {A : Type 0} → Format A → Format A
+behind_one f = by (λ p. p.1) (λ x. (1, x)) (both (fixed_where 1 (λ tag. tag == 1)) (λ tag. f))
+
+-- ---- A whole file whose last part may be missing
+
+abbrev pub tail_fits : {A : Type 0} → Format A → Option A → Type 0
+tail_fits f None = Unit {0}
+tail_fits f (Some x) = f.Fits x
+
+-- no value where no byte is left, else the value
+abbrev pub tail_at : {A : Type 0} → Format A → Reading → Result (Option A × Reading) ℕ
+tail_at f r = if nat_lt 0 (length r.rest) then f.read r >>= (λ x. Ok (Some x.0, x.1)) else Ok (None, r)
+
+-- one part, and then the end or one part more. It stands at the end of a file alone, since no byte tells that the second part is missing
+abbrev pub with_tail : {A B : Type 0} → Format A → Format B → Format (A × Option B)
+with_tail f g = record {
+  Fits = λ p. f.Fits p.0 × tail_fits g p.1;
+  spell = λ p. f.spell p.0 ++ some_spelled g p.1;
+  Run = (both f (λ x. g)).Run;
+  read = λ r. f.read r >>= λ x. tail_at g x.1 >>= λ y. Ok ((x.0, y.0), y.1);
+}

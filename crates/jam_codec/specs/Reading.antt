@@ -69,7 +69,17 @@ moved r (Some found) = Ok (found.0, record { place = r.place + (length r.rest - 
 unfoldable pub natural_at : Reading → Result (ℕ × Reading) ℕ
 natural_at r = moved r (natural_of r.rest)
 
+-- an error that names a place says that the field there does not spell; one that names none, as want of memory, says nothing
+abbrev pub Refuses : {Y : Type 0} → Option ℕ → Result Y ℕ → Type 0
+Refuses None read = Unit {0}
+Refuses (Some place) read = read ≡ Err place
+
 -- a reader answered what the reading function gives, and stands after it
-abbrev pub Reads : {X Y E : Type 0} → (E → ℕ) → (X → Y) → Result X E → Reading → Result (Y × Reading) ℕ → Type 0
+abbrev pub Reads : {X Y E : Type 0} → (E → Option ℕ) → (X → Y) → Result X E → Reading → Result (Y × Reading) ℕ → Type 0
 Reads place view (Ok x) new read = read ≡ Ok (view x, new)
-Reads place view (Err e) new read = read ≡ Err (place e)
+Reads place view (Err e) new read = Refuses (place e) read
+
+-- the same of a whole file
+abbrev pub ReadsWhole : {X E : Type 0} → (E → Option ℕ) → Result X E → Result X ℕ → Type 0
+ReadsWhole place (Ok x) read = read ≡ Ok x
+ReadsWhole place (Err e) read = Refuses (place e) read

@@ -1,5 +1,5 @@
 // A place in bytes, from which fields are read one after another.
-ghost use Rattle.std.specs.Prelude.{◌≡◌, ◌+◌, ◌*◌, ◌^◌, ◌<◌, ◌≤◌, List, ℕ, Bool, [], ◌++◌, length, IfOk, IfErr, OnErr, IsTrue, ◌↔◌};
+ghost use Rattle.std.specs.Prelude.{◌≡◌, ◌+◌, ◌*◌, ◌^◌, ◌<◌, ◌≤◌, List, ℕ, Bool, [], ◌++◌, length, IfOk, IfErr, OnErr, IsTrue, ◌↔◌, Some};
 ghost use Rattle.jam_codec.specs.Reading.{Reading, Takes, Reads, natural_at, fixed_at, bytes_at, bits_at};
 ghost use Rattle.jam_codec.specs.Format.{any};
 ghost use Rattle.jam_codec.specs.Lists.{blob_where, HasNoBlob, option_tag};
@@ -70,7 +70,7 @@ impl<'a> Cursor<'a> {
     /// `Malformed` where fewer are left.
     #[tactic(auto, unfolding(crate::specs::Reading::bytes_at))]
     pub fn bytes(&mut self, n: u64) -> Result<&'a [u8], Malformed>
-        ensures exact { Reads (λ e. e.place) (λ found. found.now) result self.new (bytes_at n self.old) }
+        ensures exact { Reads (λ e. Some e.place) (λ found. found.now) result self.new (bytes_at n self.old) }
         ensures ok { IfOk result (λ found. (length found.now ≡ n) × Takes self.old found.now self.new) }
         ensures malformed { IfErr result (λ e. (e.place ≡ self.old.place) × (length self.old.rest < n)) }
         ensures err { OnErr result (self.new ≡ self.old) }
@@ -91,7 +91,7 @@ impl<'a> Cursor<'a> {
     #[tactic(auto, unfolding(crate::specs::Reading::fixed_at, crate::specs::Reading::bytes_at))]
     pub fn fixed(&mut self, width: u8) -> Result<u64, Malformed>
         requires { width ≤ 8 }
-        ensures exact { Reads (λ e. e.place) (λ x. x) result self.new (fixed_at width self.old) }
+        ensures exact { Reads (λ e. Some e.place) (λ x. x) result self.new (fixed_at width self.old) }
         ensures ok { IfOk result (λ x. (x < 2 ^ (8 * width)) × Takes self.old (little_endian width x) self.new) }
         ensures malformed { IfErr result (λ e. (e.place ≡ self.old.place) × (length self.old.rest < width)) }
         ensures err { OnErr result (self.new ≡ self.old) }
@@ -106,7 +106,7 @@ impl<'a> Cursor<'a> {
     /// `Malformed` where none is: bytes are missing, or fewer would do.
     #[tactic(auto, unfolding(crate::specs::Reading::natural_at))]
     pub fn natural(&mut self) -> Result<u64, Malformed>
-        ensures exact { Reads (λ e. e.place) (λ x. x) result self.new (natural_at self.old) }
+        ensures exact { Reads (λ e. Some e.place) (λ x. x) result self.new (natural_at self.old) }
         ensures ok { IfOk result (λ x. (x < 2 ^ 64) × Takes self.old (natural x) self.new) }
         ensures malformed { IfErr result (λ e. (e.place ≡ self.old.place)
             × ((x : ℕ) (tail : List ℕ) → x < 2 ^ 64 → self.old.rest ≡ natural x ++ tail → ⊥)) }
@@ -128,7 +128,7 @@ impl<'a> Cursor<'a> {
     /// `Malformed` where bytes are missing, or a bit is set beyond the n.
     #[tactic(auto, unfolding(crate::specs::Reading::bits_at))]
     pub fn bits(&mut self, n: u64) -> Result<&'a [u8], Malformed>
-        ensures exact { Reads (λ e. e.place) (λ found. binary_digits n (little_number found.now)) result self.new (bits_at n self.old) }
+        ensures exact { Reads (λ e. Some e.place) (λ found. binary_digits n (little_number found.now)) result self.new (bits_at n self.old) }
         ensures size { IfOk result (λ found. length found.now ≡ bytes_for n) }
         ensures ok { IfOk result (λ found. (found.now ≡ packed (binary_digits n (little_number found.now))) × Takes self.old found.now self.new) }
         ensures malformed { IfErr result (λ e. (e.place ≡ self.old.place)
@@ -148,8 +148,8 @@ impl<'a> Cursor<'a> {
         Ok(front)
     }
 
-    // A second cursor at the same place, for fields that are read all or none.
-    fn ahead(&self) -> Cursor<'a>
+    /// A second cursor at the same place, for fields that are read all or none.
+    pub fn ahead(&self) -> Cursor<'a>
         ensures { result ≡ self.now }
     {
         Cursor {
@@ -164,7 +164,7 @@ impl<'a> Cursor<'a> {
     /// `Malformed` where no length is spelled, or, at the first byte after the length, where fewer bytes are left.
     #[tactic(auto, using(std::proofs::lemmas::Result::err_from_is_err_and))]
     pub fn blob(&mut self) -> Result<&'a [u8], Malformed>
-        ensures exact { Reads (λ e. e.place) (λ found. found.now) result self.new ((blob_where any).read self.old) }
+        ensures exact { Reads (λ e. Some e.place) (λ found. found.now) result self.new ((blob_where any).read self.old) }
         ensures ok { IfOk result (λ found. Takes self.old (natural (length found.now) ++ found.now) self.new) }
         ensures malformed { IfErr result (λ e. HasNoBlob self.old e.place) }
         ensures none { IfErr result (λ e. (x tail : List ℕ) → length x < 2 ^ 64 → self.old.rest ≡ (natural (length x) ++ x) ++ tail → ⊥) }
@@ -183,7 +183,7 @@ impl<'a> Cursor<'a> {
     /// `Malformed` where no byte is left, or the byte is neither 0 nor 1.
     #[tactic(auto, using(std::proofs::lemmas::Result::err_from_is_err_and))]
     pub fn option_tag(&mut self) -> Result<bool, Malformed>
-        ensures exact { Reads (λ e. e.place) (λ present. present) result self.new (option_tag.read self.old) }
+        ensures exact { Reads (λ e. Some e.place) (λ present. present) result self.new (option_tag.read self.old) }
         ensures ok { IfOk result (λ present. Takes self.old (option_tag.spell present) self.new) }
         ensures malformed { IfErr result (λ e. e.place ≡ self.old.place) }
         ensures none { IfErr result (λ e. (x : Bool) (tail : List ℕ) → self.old.rest ≡ option_tag.spell x ++ tail → ⊥) }

@@ -1,19 +1,24 @@
 -- What was read of a whole file.
-use Rattle.std.proofs.Common.{◌≡◌, ℕ, List, Result, Ok, Err, sym, ◌∙◌}
-use Rattle.jam_codec.specs.Format.{Format, Spells, whole}
-use Rattle.jam_codec.specs.Laws.{AreBytes, IsFormat}
-use Rattle.jam_codec.proofs.Whole.{whole-found, whole-again, whole-refused}
+use Rattle.std.proofs.Common.{ℕ, List, Result, Ok, Err, IfOk}
+use Rattle.jam_codec.specs.Reading.{ReadsWhole}
+use Rattle.jam_codec.specs.Format.{Format, Spells, from, whole}
+use Rattle.jam_codec.specs.Laws.{AreBytes, Longest, IsFileFormat, SpellsNone}
+use Rattle.jam_codec.proofs.FormatLaws.{refused-none}
+use Rattle.jam_codec.specs.Refusal.{place_of, IfMalformed}
 use Rattle.jam_codec.specs.declared.refusal.FileRefusal.{FileRefusal}
 use Rattle.jam_codec.specs.declared.refusal.FileRefusal.TheVariants.{Malformed, NoMemory}
-use Rattle.jam_fields.specs.Given.{GivesWhole, IsRead}
 
-module _ {A : Type 0} (f : Format A) (F : IsFormat f) (bytes : List ℕ) where
-  none_spelled : (place : ℕ) → whole f bytes ≡ Err place → (x : A) → Spells f x bytes → ⊥
-  none_spelled place given x spells =
-      let found : whole f bytes ≡ Ok x = whole-again f F bytes x spells in
-      cc (sym given ∙ found)
+module _ {A : Type 0} (f : Format A) (F : IsFileFormat f) (bytes : List ℕ) where
+  pub value_found : (result : Result A FileRefusal) → AreBytes bytes → ReadsWhole place_of result (whole f bytes) → IfOk result (λ x. Spells f x bytes)
+  value_found (Ok x) are read = F.found bytes x are read
+  value_found (Err e) are read = tt
 
-  pub is_read : (result : Result A FileRefusal) → AreBytes bytes → GivesWhole result (whole f bytes) → IsRead f bytes result
-  is_read (Ok x) are given = whole-found f F bytes x are given
-  is_read (Err (Malformed place)) are given = (whole-refused f F bytes place are given, none_spelled place given)
-  is_read (Err NoMemory) are given = tt
+  pub none_spelled : (result : Result A FileRefusal) → ReadsWhole place_of result (whole f bytes) → IfMalformed result (λ place. SpellsNone f bytes)
+  none_spelled (Ok x) read = tt
+  none_spelled (Err (Malformed place)) read = refused-none f F bytes place read
+  none_spelled (Err NoMemory) read = tt
+
+  pub longest_run : (result : Result A FileRefusal) → AreBytes bytes → ReadsWhole place_of result (whole f bytes) → IfMalformed result (λ place. Longest f.Run (from 0 bytes) place)
+  longest_run (Ok x) are read = tt
+  longest_run (Err (Malformed place)) are read = F.refused bytes place are read
+  longest_run (Err NoMemory) are read = tt

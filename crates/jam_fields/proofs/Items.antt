@@ -1,12 +1,11 @@
 -- Items that are read, or written, one after another.
-use Rattle.std.proofs.Common.{◌≡◌, ℕ, zero, suc, ◌+◌, ◌-◌, ◌<◌, List, [], ◌∷◌, ◌++◌, length, ap, sym, ◌∙◌, refl, subst, arith, Ok, Err, Result, Option, Some, None, append_assoc, append-nil, length-append, get_or, drop, drop-cons, add-one}
+use Rattle.std.proofs.Common.{◌≡◌, ℕ, zero, suc, ◌+◌, ◌-◌, ◌<◌, List, [], ◌∷◌, ◌++◌, length, ap, sym, ◌∙◌, refl, subst, arith, Ok, Err, Result, Option, Some, None, append_assoc, append-nil, length-append, get_or, take, drop, drop-cons, add-one}
 use Rattle.std.specs.Prelude.{slice_get}
-use Rattle.jam_codec.specs.Reading.{Reading, ◌>>=◌}
+use Rattle.jam_codec.specs.Reading.{Reading, Refuses, ◌>>=◌}
 use Rattle.jam_codec.specs.Format.{Format, items_at, items_spelled, items_fit}
-use Rattle.jam_codec.specs.declared.refusal.FileRefusal.{FileRefusal}
-use Rattle.jam_codec.specs.declared.refusal.FileRefusal.TheVariants.{Malformed, NoMemory}
-use Rattle.jam_fields.specs.Given.{Refuses}
+use Rattle.std.specs.Io.{StartsWith}
 use Rattle.jam_fields.specs.Rows.{last_of}
+use Rattle.jam_fields.proofs.Kept.{kept_front}
 
 at_length : {A : Type 0} → (xs : List A) (x : A) → slice_get (xs ++ x ∷ []) (length xs) ≡ Some x
 at_length [] x = refl
@@ -68,10 +67,10 @@ module _ {A : Type 0} (g : Option A → Format A) (all : Result (List A × Readi
     is = ahead.is ∙ rw (count, read, last_of-append front x) (behind-append front x (items_at g m (Some x) s));
   }
 
-  pub one_refused : (m : ℕ) (e : FileRefusal) → Ahead g all front n r → n ≡ suc m → Refuses e ((g (last_of front)).read r) → Refuses e all
+  pub one_refused : (m : ℕ) (place : Option ℕ) → Ahead g all front n r → n ≡ suc m → Refuses place ((g (last_of front)).read r) → Refuses place all
   unfolding items_at
-  one_refused m (Malformed place) ahead count refused = ahead.is ∙ rw (count, refused) refl
-  one_refused m NoMemory ahead count refused = tt
+  one_refused m (Some place) ahead count refused = ahead.is ∙ rw (count, refused) refl
+  one_refused m None ahead count refused = tt
 
   pub all_read : Ahead g all front n r → n ≡ zero → all ≡ Ok (front, r)
   unfolding items_at
@@ -141,6 +140,11 @@ pub all_fit : {A : Type 0} → (g : Option A → Format A) (all left : List A) (
 all_fit g all left old new whole none =
     let same : whole.added.front ≡ all = sym (append-nil whole.added.front) ∙ ap (λ xs. whole.added.front ++ xs) (sym none) ∙ sym whole.added.parts in
     subst (λ xs. items_fit g (length xs) None xs) same whole.fit
+
+-- the bytes that were there before these items stand in front of what comes of the bytes after them
+pub kept_whole : {A : Type 0} → (g : Option A → Format A) (all left : List A) (old mid new : List ℕ) → AddedWhole g all left old mid → StartsWith new mid → StartsWith new old
+kept_whole g all left old mid new whole kept =
+    kept_front old (items_spelled g None whole.added.front) new (ap (λ (bytes : List ℕ). take (length bytes) new) (sym whole.added.bytes) ∙ kept ∙ whole.added.bytes)
 
 pub drop_is : {A : Type 0} → (xs : List A) (i : ℕ) (x : A) → i < length xs → x ≡ get_or xs i x → drop i xs ≡ x ∷ drop (i + 1) xs
 drop_is xs i x within is = drop-cons xs i x within ∙ ap (λ y. y ∷ drop (suc i) xs) (sym is) ∙ ap (λ k. x ∷ drop k xs) (sym (add-one i))

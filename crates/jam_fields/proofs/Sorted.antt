@@ -1,6 +1,6 @@
 -- Rows whose keys ascend, and the finite maps that hold them.
-use Rattle.std.proofs.Common.{◌≡◌, ℕ, zero, suc, Bool, true, false, ◌&&◌, List, [], ◌∷◌, ◌++◌, map, length, ap, sym, ◌∙◌, refl, subst, Ok, Err, Result, Option, Some, None, option_map, Ordering, IfSome}
-use Rattle.std.specs.Prelude.{T, nat_le}
+use Rattle.std.proofs.Common.{◌≡◌, ℕ, zero, suc, Bool, true, false, ◌&&◌, List, [], ◌∷◌, ◌++◌, map, length, ap, sym, ◌∙◌, refl, subst, Ok, Result, Option, Some, None, option_map, Ordering, IfSome}
+use Rattle.std.specs.Prelude.{T}
 use Rattle.std.specs.declared.cmp.Ordering.TheVariants.{Less, Equal, Greater}
 use Rattle.std.specs.Ordering.{nat_cmp, is_lt, ordering_reverse}
 use Rattle.std.specs.Cmp.{IsTotalOrder}
@@ -157,22 +157,22 @@ entry_above {K} {V} R key value above l x r s e =
     subst (λ (q : K × V). R l.0 q.0 ≡ Less) parts.0 (above l.0 k.0.0 r k.0.1 k.1)
 
 -- what stood where a list was read
-pub record ListRead {A : Type 0} (limit : ℕ) (g : Option A → Format A) (r : Reading) (xs : List A) (s : Reading) : Type 0 where
+pub record ListRead {A : Type 0} (test : ℕ → Bool) (g : Option A → Format A) (r : Reading) (xs : List A) (s : Reading) : Type 0 where
   pub count : ℕ
   pub mid : Reading
   pub number : natural_at r ≡ Ok (count, mid)
-  pub few : nat_le count limit ≡ true
+  pub few : test count ≡ true
   pub items : items_at g count None mid ≡ Ok (xs, s)
 
-pub list_read : {A : Type 0} (limit : ℕ) (g : Option A → Format A) (r : Reading) (xs : List A) (s : Reading) → (list_of limit g).read r ≡ Ok (xs, s) → ListRead limit g r xs s
-list_read {A} limit g r xs s e =
-    let p : (p : (ℕ × List A) × Reading) × ((both (natural_where (λ n. nat_le n limit)) (times g)).read r ≡ Ok p) × ((let q : Result (List A × Reading) ℕ = Ok (p.0.1, p.1) in q) ≡ Ok (xs, s)) =
-    chain_ok ((both (natural_where (λ n. nat_le n limit)) (times g)).read r) (λ p. Ok (p.0.1, p.1)) (xs, s) e in
-    let n : (n : ℕ × Reading) × ((natural_where (λ n. nat_le n limit)).read r ≡ Ok n) × ((items_at g n.0 None n.1 >>= λ y. Ok ((n.0, y.0), y.1)) ≡ Ok p.0) =
-    chain_ok ((natural_where (λ n. nat_le n limit)).read r) (λ n. items_at g n.0 None n.1 >>= λ y. Ok ((n.0, y.0), y.1)) p.0 p.1 in
+pub list_read : {A : Type 0} (test : ℕ → Bool) (g : Option A → Format A) (r : Reading) (xs : List A) (s : Reading) → (list_of test g).read r ≡ Ok (xs, s) → ListRead test g r xs s
+list_read {A} test g r xs s e =
+    let p : (p : (ℕ × List A) × Reading) × ((both (natural_where test) (times g)).read r ≡ Ok p) × ((let q : Result (List A × Reading) ℕ = Ok (p.0.1, p.1) in q) ≡ Ok (xs, s)) =
+    chain_ok ((both (natural_where test) (times g)).read r) (λ p. Ok (p.0.1, p.1)) (xs, s) e in
+    let n : (n : ℕ × Reading) × ((natural_where test).read r ≡ Ok n) × ((items_at g n.0 None n.1 >>= λ y. Ok ((n.0, y.0), y.1)) ≡ Ok p.0) =
+    chain_ok ((natural_where test).read r) (λ n. items_at g n.0 None n.1 >>= λ y. Ok ((n.0, y.0), y.1)) p.0 p.1 in
     let y : (y : List A × Reading) × (items_at g n.0.0 None n.0.1 ≡ Ok y) × ((let q : Result ((ℕ × List A) × Reading) ℕ = Ok ((n.0.0, y.0), y.1) in q) ≡ Ok p.0) =
     chain_ok (items_at g n.0.0 None n.0.1) (λ y. Ok ((n.0.0, y.0), y.1)) p.0 n.2 in
-    let first : (natural_at r ≡ Ok (n.0.0, n.0.1)) × (nat_le n.0.0 limit ≡ true) = passing_ok (λ n. nat_le n limit) r.place (natural_at r) n.0.0 n.0.1 n.1 in
+    let first : (natural_at r ≡ Ok (n.0.0, n.0.1)) × (test n.0.0 ≡ true) = passing_ok test r.place (natural_at r) n.0.0 n.0.1 n.1 in
     let outer : (p.0.0.1 ≡ xs) × (p.0.1 ≡ s) = ok_parts p.0.0.1 xs p.0.1 s p.2 in
     let inner : ((n.0.0, y.0.0) ≡ p.0.0) × (y.0.1 ≡ p.0.1) = ok_parts (n.0.0, y.0.0) p.0.0 y.0.1 p.0.1 y.2 in
     let same : y.0.0 ≡ xs = ap (λ (q : ℕ × List A). q.1) inner.0 ∙ outer.0 in
@@ -184,7 +184,7 @@ list_read {A} limit g r xs s e =
       items = y.1 ∙ ap (λ (ys : List A). Ok (ys, y.0.1)) same ∙ ap (λ (t : Reading). Ok (xs, t)) (inner.1 ∙ outer.1);
     }
 
-items_length : {A : Type 0} (g : Option A → Format A) (n : ℕ) (last : Option A) (r : Reading) (xs : List A) (s : Reading) → items_at g n last r ≡ Ok (xs, s) → length xs ≡ n
+pub items_length : {A : Type 0} (g : Option A → Format A) (n : ℕ) (last : Option A) (r : Reading) (xs : List A) (s : Reading) → items_at g n last r ≡ Ok (xs, s) → length xs ≡ n
 unfolding items_at
 items_length g zero last r xs s e =
     let parts : ([] ≡ xs) × (r ≡ s) = ok_parts [] xs r s e in
@@ -197,25 +197,20 @@ items_length {A} g (suc n) last r xs s e =
     let parts : (x.0.0 ∷ y.0.0 ≡ xs) × (y.0.1 ≡ s) = ok_parts (x.0.0 ∷ y.0.0) xs y.0.1 s y.2 in
     ap length (sym parts.0) ∙ ap suc (items_length g n (Some x.0.0) x.0.1 y.0.0 y.0.1 y.1)
 
-pub list_few : {A : Type 0} (limit : ℕ) (g : Option A → Format A) (r : Reading) (xs : List A) (s : Reading) → (list_of limit g).read r ≡ Ok (xs, s) → nat_le (length xs) limit ≡ true
-list_few limit g r xs s e =
-    let l : ListRead limit g r xs s = list_read limit g r xs s e in
-    ap (λ (n : ℕ). nat_le n limit) (items_length g l.count None l.mid xs s l.items) ∙ l.few
-
 map_same : {A : Type 0} (xs : List A) → map (λ (x : A). x) xs ≡ xs
 map_same [] = refl
 map_same {A} (x ∷ xs) = ap (λ (ys : List A). x ∷ ys) (map_same xs)
 
 -- what was read is sorted
-pub list_sorted : {A K V : Type 0} (R : K → K → Ordering) (total : IsTotalOrder R) (entry : A → K × V) (limit : ℕ) (g : Option A → Format A) → ((l x : A) (r s : Reading) → (g (Some l)).read r ≡ Ok (x, s) → R (entry l).0 (entry x).0 ≡ Less)
-    → (r : Reading) (xs : List A) (s : Reading) → (list_of limit g).read r ≡ Ok (xs, s) → T (is_sorted R (map entry xs))
-list_sorted R total entry limit g above r xs s e =
-    let l : ListRead limit g r xs s = list_read limit g r xs s e in
+pub list_sorted : {A K V : Type 0} (R : K → K → Ordering) (total : IsTotalOrder R) (entry : A → K × V) (test : ℕ → Bool) (g : Option A → Format A) → ((l x : A) (r s : Reading) → (g (Some l)).read r ≡ Ok (x, s) → R (entry l).0 (entry x).0 ≡ Less)
+    → (r : Reading) (xs : List A) (s : Reading) → (list_of test g).read r ≡ Ok (xs, s) → T (is_sorted R (map entry xs))
+list_sorted R total entry test g above r xs s e =
+    let l : ListRead test g r xs s = list_read test g r xs s e in
     rows_sorted R total entry xs (read_ascend g (λ a b. R (entry a).0 (entry b).0 ≡ Less) above l.count None l.mid xs s l.items)
 
-pub map_sorted : {K V : Type 0} (R : K → K → Ordering) (total : IsTotalOrder R) (limit : ℕ) (key : Option K → Format K) (value : Format V) → ReadAbove R key → (r : Reading) (es : List (K × V)) (s : Reading) → (map_of limit key value).read r ≡ Ok (es, s) → T (is_sorted R es)
-map_sorted R total limit key value above r es s e =
-    subst (λ xs. T (is_sorted R xs)) (map_same es) (list_sorted R total (λ x. x) limit (entry_of key value) (entry_above R key value above) r es s e)
+pub map_sorted : {K V : Type 0} (R : K → K → Ordering) (total : IsTotalOrder R) (key : Option K → Format K) (value : Format V) → ReadAbove R key → (r : Reading) (es : List (K × V)) (s : Reading) → (map_of key value).read r ≡ Ok (es, s) → T (is_sorted R es)
+map_sorted R total key value above r es s e =
+    subst (λ xs. T (is_sorted R xs)) (map_same es) (list_sorted R total (λ x. x) any (entry_of key value) (entry_above R key value above) r es s e)
 
 -- an entry above all that a map holds
 module _ {K V : Type 0} (R : K → K → Ordering) (total : IsTotalOrder R) where

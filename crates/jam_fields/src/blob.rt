@@ -1,14 +1,16 @@
 // Bytes behind their length.
-ghost use Rattle.std.specs.Prelude.{◌≡◌, ◌++◌, List, ℕ, OnOk, Option, option_map, Some};
+ghost use Rattle.std.specs.Prelude.{◌≡◌, ◌++◌, List, ℕ, OnOk, OnErr, Option, option_map, Some};
+ghost use Rattle.std.specs.Io.{StartsWith};
 ghost use Rattle.std.specs.Cmp.Lexicographic.{slice_cmp};
 ghost use Rattle.std.specs.Ordering.{nat_cmp};
 ghost use Rattle.std.specs.Option.{option_copied};
 ghost use Rattle.jam_codec.specs.Format.{any};
 ghost use Rattle.jam_codec.specs.Lists.{blob_where, blob_after, follows};
-ghost use Rattle.jam_codec.proofs.Lists.{blob_laws, blob_after_laws};
-ghost use Rattle.jam_fields.specs.Given.{Gives};
+ghost use Rattle.jam_codec.proofs.FormatLaws.{blob_laws, blob_after_laws};
+ghost use Rattle.jam_codec.specs.Reading.{Reads};
+ghost use Rattle.jam_codec.specs.Refusal.{place_of};
 
-use crate::field::Field;
+use crate::field::{Field, Spell};
 use crate::row::Row;
 use jam_codec::{Cursor, FileRefusal, push_blob};
 use std::alloc::{AllocError, Global};
@@ -56,15 +58,19 @@ impl Field for Blob {
     ghost format = { blob_where any };
 
     fn read(alloc: Global, cursor: &mut Cursor<'_>) -> Result<Blob, FileRefusal> {
-        let bytes = cursor.blob()?;
-        Ok(Blob::new(Vec::from_slice(alloc, bytes)?))
-    }
-
-    fn write(&self, out: &mut Vec<u8>) -> Result<(), AllocError> {
-        push_blob(out, self.as_slice())
+        let mut ahead = cursor.ahead();
+        let bytes = Vec::from_slice(alloc, ahead.blob()?)?;
+        *cursor = ahead;
+        Ok(Blob::new(bytes))
     }
 
     ghost is_format = { blob_laws any };
+}
+
+impl Spell for Blob {
+    fn write(&self, out: &mut Vec<u8>) -> Result<(), AllocError> {
+        push_blob(out, self.as_slice())
+    }
 }
 
 fn is_above(last: Option<&Blob>, bytes: &[u8]) -> bool
@@ -84,17 +90,16 @@ impl Row for Blob {
         cursor: &mut Cursor<'_>,
         last: Option<&Blob>,
     ) -> Result<Blob, FileRefusal> {
-        let length = cursor.natural()?;
-        let place = cursor.place();
-        let bytes = cursor.bytes(length)?;
-        if !is_above(last, bytes) {
+        let mut ahead = cursor.ahead();
+        let length = ahead.natural()?;
+        let place = ahead.place();
+        let found = ahead.bytes(length)?;
+        if !is_above(last, found) {
             return Err(FileRefusal::Malformed { place });
         }
-        Ok(Blob::new(Vec::from_slice(alloc, bytes)?))
-    }
-
-    fn write_row(&self, out: &mut Vec<u8>) -> Result<(), AllocError> {
-        self.write(out)
+        let bytes = Vec::from_slice(alloc, found)?;
+        *cursor = ahead;
+        Ok(Blob::new(bytes))
     }
 
     ghost is_format_after = { blob_after_laws };

@@ -1,39 +1,33 @@
 // Rows: values whose format the one before them decides.
-ghost use Rattle.std.specs.Prelude.{◌≡◌, ◌++◌, OnOk, Option, None, length};
+ghost use Rattle.std.specs.Prelude.{◌≡◌, OnErr, Option, None};
 ghost use Rattle.std.specs.Option.{option_copied, option_map};
-ghost use Rattle.jam_codec.specs.Format.{Format, items_at, items_spelled};
+ghost use Rattle.jam_codec.specs.Format.{Format, any, items_at};
 ghost use Rattle.jam_codec.specs.Lists.{list_of, entry_of};
 ghost use Rattle.jam_codec.specs.Laws.{IsFormat};
-ghost use Rattle.jam_codec.proofs.Lists.{entry_laws};
-ghost use Rattle.jam_fields.specs.Given.{Gives};
+ghost use Rattle.jam_codec.proofs.FormatLaws.{entry_laws};
+ghost use Rattle.jam_codec.specs.Reading.{Reads};
+ghost use Rattle.jam_codec.specs.Refusal.{place_of};
 
 use crate::field::Field;
-use crate::number::read_natural;
-use jam_codec::{Cursor, FileRefusal, push_natural};
-use std::alloc::{AllocError, Global};
+use jam_codec::{Cursor, FileRefusal};
+use std::alloc::Global;
 
-/// A value whose format the one before it decides, as that of a key that must stand above it. Its
-/// spelling is the same after any other.
+/// A value whose format the one before it decides, as that of a key that must stand above it.
 pub trait Row: Drop {
     ghost after: { Option Self → Format Self };
 
     /// The value at the cursor, which stands after it then.
     ///
     /// # Errors
-    /// `Malformed` at the first field that does not spell; `NoMemory`.
+    /// `Malformed` at the first field that does not spell; `NoMemory`. The cursor stays where it
+    /// was then.
     fn read_after(
         alloc: Global,
         cursor: &mut Cursor<'_>,
         last: Option<&Self>,
     ) -> Result<Self, FileRefusal>
-        ensures exact { Gives (λ x. x) result cursor.new ((after (option_copied last.entry)).read cursor.old) };
-
-    /// Adds the spelling of the value.
-    ///
-    /// # Errors
-    /// Want of memory; a part may have been added then.
-    fn write_row(&self, out: &mut Vec<u8>) -> Result<(), AllocError>
-        ensures ok { (last : Option Self) → OnOk result (out.new.items ≡ out.old.items ++ (after last).spell self.now) };
+        ensures exact { Reads place_of (λ x. x) result cursor.new ((after (option_copied last.entry)).read cursor.old) }
+        ensures err { OnErr result (cursor.new ≡ cursor.old) };
 
     ghost is_format_after: { (last : Option Self) → IsFormat (after last) };
 }
@@ -51,14 +45,11 @@ impl<K: Row, V: Field> Row for (K, V) {
             None => None,
             Some((key, _)) => Some(key),
         };
-        let key = K::read_after(alloc, cursor, last_key)?;
-        let value = V::read(alloc, cursor)?;
+        let mut ahead = cursor.ahead();
+        let key = K::read_after(alloc, &mut ahead, last_key)?;
+        let value = V::read(alloc, &mut ahead)?;
+        *cursor = ahead;
         Ok((key, value))
-    }
-
-    fn write_row(&self, out: &mut Vec<u8>) -> Result<(), AllocError> {
-        self.0.write_row(out)?;
-        self.1.write(out)
     }
 
     ghost is_format_after = { entry_laws K.after V.format K.is_format_after V.is_format };
@@ -69,7 +60,7 @@ fn read_times<T: Row>(
     cursor: &mut Cursor<'_>,
     count: u64,
 ) -> Result<Vec<T>, FileRefusal>
-    ensures exact { Gives (λ rows. rows.items) result cursor.new (items_at T.after count None cursor.old) }
+    ensures exact { Reads place_of (λ rows. rows.items) result cursor.new (items_at T.after count None cursor.old) }
 {
     let mut rows = Vec::new(alloc);
     for _ in 0..count {
@@ -79,37 +70,18 @@ fn read_times<T: Row>(
     Ok(rows)
 }
 
-/// A count up to a limit, and so many rows. Room is made for each row as it is read.
+/// A count, and so many rows. Room is made for each row as it is read.
 ///
 /// # Errors
-/// `Malformed` at the first field that does not spell; `NoMemory`.
-pub fn read_rows<T: Row>(
-    alloc: Global,
-    cursor: &mut Cursor<'_>,
-    limit: u64,
-) -> Result<Vec<T>, FileRefusal>
-    ensures exact { Gives (λ rows. rows.items) result cursor.new ((list_of limit T.after).read cursor.old) }
+/// `Malformed` at the first field that does not spell; `NoMemory`. The cursor stays where it was
+/// then.
+pub fn read_rows<T: Row>(alloc: Global, cursor: &mut Cursor<'_>) -> Result<Vec<T>, FileRefusal>
+    ensures exact { Reads place_of (λ rows. rows.items) result cursor.new ((list_of any T.after).read cursor.old) }
+    ensures err { OnErr result (cursor.new ≡ cursor.old) }
 {
-    let count = read_natural(cursor, limit)?;
-    read_times(alloc, cursor, count)
-}
-
-fn write_times<T: Row>(rows: &[T], out: &mut Vec<u8>) -> Result<(), AllocError>
-    ensures ok { OnOk result (out.new.items ≡ out.old.items ++ items_spelled T.after None rows.now) }
-{
-    for row in rows {
-        row.write_row(out)?;
-    }
-    Ok(())
-}
-
-/// Adds the count of the rows, and the rows.
-///
-/// # Errors
-/// Want of memory; a part may have been added then.
-pub fn write_rows<T: Row>(rows: &[T], limit: u64, out: &mut Vec<u8>) -> Result<(), AllocError>
-    ensures ok { OnOk result (out.new.items ≡ out.old.items ++ (list_of limit T.after).spell rows.now) }
-{
-    push_natural(out, rows.len() as u64)?;
-    write_times(rows, out)
+    let mut ahead = cursor.ahead();
+    let count = ahead.natural()?;
+    let rows = read_times(alloc, &mut ahead, count)?;
+    *cursor = ahead;
+    Ok(rows)
 }

@@ -1,6 +1,7 @@
 use Rattle.std.proofs.Common.{arith, ◌≡◌, ◌-◌, ◌+◌, suc, None}
 use Rattle.std.proofs.lemmas.Result.{err_from_is_err_and}
 use Rattle.jam_codec.specs.Format.{items_at}
+use Rattle.jam_codec.specs.Refusal.{place_of}
 use Rattle.jam_fields.proofs.Items.{none_read, one_read, one_refused, all_read}
 use Rattle.jam_fields.proofs.list.read_items.Goals as goal
 
@@ -14,7 +15,7 @@ returns-in_err-read g c =
     let parts = err_from_is_err_and c.from_residual.result c.from_residual.ensures.1 in
     let count : c.args.count - c.loop.counter ≡ suc (c.args.count - (c.loop.counter + 1)) = omega arith in
     rw (parts.1, parts.2) (record {
-      exact = one_refused (λ _. g.T.Field.format) (items_at (λ _. g.T.Field.format) c.args.count None c.args.cursor.now) c.loop.items.items (c.args.count - c.loop.counter) c.loop.cursor (c.args.count - (c.loop.counter + 1)) c.in_err-read.field-0.0 c.loop.invariant count c.in_err-read.ensures.exact;
+      exact = one_refused (λ _. g.T.Field.format) (items_at (λ _. g.T.Field.format) c.args.count None c.args.cursor.now) c.loop.items.items (c.args.count - c.loop.counter) c.loop.cursor (c.args.count - (c.loop.counter + 1)) (place_of c.in_err-read.field-0.0) c.loop.invariant count c.in_err-read.ensures.exact;
     })
 
 pub loop-preserved : goal.loop-preserved

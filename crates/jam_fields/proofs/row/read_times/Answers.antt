@@ -2,7 +2,8 @@ use Rattle.std.proofs.Common.{arith, ◌≡◌, ◌-◌, ◌+◌, suc, None, sym
 use Rattle.std.specs.Prelude.{slice_get}
 use Rattle.std.proofs.lemmas.Result.{err_from_is_err_and}
 use Rattle.jam_codec.specs.Format.{items_at}
-use Rattle.jam_fields.specs.Given.{Refuses}
+use Rattle.jam_codec.specs.Reading.{Refuses}
+use Rattle.jam_codec.specs.Refusal.{place_of}
 use Rattle.jam_fields.proofs.Items.{none_read, one_read, one_refused, all_read, read_after_last}
 use Rattle.jam_fields.proofs.row.read_times.Goals as goal
 
@@ -18,7 +19,7 @@ returns-in_err-row g c =
     let last : option_copied c.last.result ≡ slice_get c.loop.rows.items (length c.loop.rows.items - 1) = c.last.ensures.value ∙ ap (λ xs. slice_get xs (length xs - 1)) c.deref.ensures.value in
     let here = read_after_last g.T.Row.after c.loop.rows.items (option_copied c.last.result) c.loop.cursor last in
     rw (parts.1, parts.2) (record {
-      exact = one_refused g.T.Row.after (items_at g.T.Row.after c.args.count None c.args.cursor.now) c.loop.rows.items (c.args.count - c.loop.counter) c.loop.cursor (c.args.count - (c.loop.counter + 1)) c.in_err-row.field-0.0 c.loop.invariant count (subst (Refuses c.in_err-row.field-0.0) here c.in_err-row.ensures.exact);
+      exact = one_refused g.T.Row.after (items_at g.T.Row.after c.args.count None c.args.cursor.now) c.loop.rows.items (c.args.count - c.loop.counter) c.loop.cursor (c.args.count - (c.loop.counter + 1)) (place_of c.in_err-row.field-0.0) c.loop.invariant count (subst (Refuses (place_of c.in_err-row.field-0.0)) here c.in_err-row.ensures.exact);
     })
 
 pub loop-preserved : goal.loop-preserved
