@@ -1,5 +1,5 @@
 // The state of the services.
-ghost use Rattle.std.specs.Prelude.{◌≡◌, true, IfOk};
+ghost use Rattle.std.specs.Prelude.{◌≡◌, true, Some, None, IfOk, if◌then◌else◌};
 ghost use Rattle.jam_accounts.specs.Accounts.{is_version, AreOfVersion};
 
 use crate::Accounts;
@@ -11,6 +11,19 @@ pub const FIRST_VERSION: u32 = 1;
 
 /// The version of every state that is made.
 pub const LATEST_VERSION: u32 = 2;
+
+/// The version of this number, where there is one.
+pub fn version_of(number: u64) -> Option<u32>
+    ensures { result ≡ (if is_version number then Some number else None) }
+{
+    if number == u64::from(FIRST_VERSION) {
+        Some(FIRST_VERSION)
+    } else if number == u64::from(LATEST_VERSION) {
+        Some(LATEST_VERSION)
+    } else {
+        None
+    }
+}
 
 /// The state of the services at a time slot. Its version is 1 or 2; with version 1, the gratis and
 /// the slot of making of all its accounts are 0.
