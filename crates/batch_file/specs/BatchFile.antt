@@ -1,13 +1,15 @@
--- The file of a batch: reports of work, and preimages that are delivered. uK is K bytes, least significant first.
-use Rattle.std.specs.Prelude.{ℕ, zero, suc, ◌-◌, ◌^◌, List, [], nat_lt}
-use Rattle.jam_codec.specs.Format.{Format, any, both, by, fixed_where, bytes_where}
-use Rattle.jam_codec.specs.Lists.{blob_where, list_of, nothing}
+-- The file of a batch: reports of work, preimages that are delivered, and a schedule, which may be missing. uK is K bytes, least significant first.
+use Rattle.std.specs.Prelude.{ℕ, zero, suc, ◌-◌, ◌^◌, List, [], Option, nat_lt, nat_le}
+use Rattle.jam_codec.specs.Format.{Format, any, both, by, times, fixed_where, bytes_where}
+use Rattle.jam_codec.specs.Lists.{blob_where, list_of, up_to, nothing, behind_one, with_tail}
+use Rattle.gas_ledger.specs.Schedule.{Schedule}
 use Rattle.batch_file.specs.Limits.{report_limit, item_limit}
 use Rattle.batch_file.specs.declared.result.WorkResult.{WorkResult}
 use Rattle.batch_file.specs.declared.result.WorkResult.TheVariants.{Output, OutOfGas, Panic, NoCode}
 use Rattle.batch_file.specs.declared.item.ReportItem.{ReportItem}
 use Rattle.batch_file.specs.declared.report.Report.{Report}
 use Rattle.batch_file.specs.declared.delivery.Delivery.{Delivery}
+use Rattle.batch_file.specs.declared.unscheduled.Unscheduled.{Unscheduled}
 use Rattle.batch_file.specs.declared.batch.Batch.{Batch}
 
 -- the result of a tag and the bytes behind it: 0 an output, 1 out of gas, 2 a panic, 3 no code
@@ -42,7 +44,7 @@ item_format =
 
 -- a natural count up to the limit, and so many items
 abbrev pub items_format : Format (List ReportItem)
-items_format = list_of item_limit (λ _. item_format)
+items_format = list_of (up_to item_limit) (λ _. item_format)
 
 -- 32 bytes of the package's hash, and the items
 abbrev pub report_format : Format Report
@@ -50,7 +52,7 @@ report_format = by (λ p. record { «package» = p.0; items = p.1 }) (λ r. (r.�
 
 -- a natural count up to the limit, and so many reports
 abbrev pub reports_format : Format (List Report)
-reports_format = list_of report_limit (λ _. report_format)
+reports_format = list_of (up_to report_limit) (λ _. report_format)
 
 -- u4 service, and a blob
 abbrev pub delivery_format : Format Delivery
@@ -58,17 +60,35 @@ delivery_format = by (λ p. record { service = p.0; bytes = p.1 }) (λ d. (d.ser
 
 -- a natural count, and so many deliveries
 abbrev pub deliveries_format : Format (List Delivery)
-deliveries_format = list_of (2 ^ 64 - 1) (λ _. delivery_format)
+deliveries_format = list_of (up_to (2 ^ 64 - 1)) (λ _. delivery_format)
 
 -- u4 slot, 32 bytes of entropy, u8 gas, the reports, the deliveries
-abbrev pub batch_fields : Format (ℕ × (List ℕ × (ℕ × (List Report × List Delivery))))
-batch_fields =
+abbrev pub unscheduled_fields : Format (ℕ × (List ℕ × (ℕ × (List Report × List Delivery))))
+unscheduled_fields =
     both (fixed_where 4 any) (λ _.
     both (bytes_where 32 any) (λ _.
     both (fixed_where 8 any) (λ _.
     both reports_format (λ _. deliveries_format))))
 
-abbrev pub batch_format : Format Batch
-batch_format =
+abbrev pub unscheduled_format : Format Unscheduled
+unscheduled_format =
     by (λ p. record { slot = p.0; entropy = p.1.0; gas = p.1.1.0; reports = p.1.1.1.0; preimages = p.1.1.1.1 }) (λ b. (b.slot, (b.entropy, (b.gas, (b.reports, b.preimages)))))
-    batch_fields
+    unscheduled_fields
+
+-- n numbers of `width` bytes, each at least so much
+abbrev pub costs_of : ℕ → ℕ → ℕ → Format (List ℕ)
+costs_of width least n = times (λ last. fixed_where width (nat_le least)) n
+
+-- 13 numbers u1, of the forms 1 to 13; 28 numbers u2, of the calls 0 to 26 and then of all others
+abbrev pub schedule_format : Format Schedule
+schedule_format = by (λ p. record { forms = p.0; calls = p.1 }) (λ s. (s.forms, s.calls)) (both (costs_of 1 1 13) (λ _. costs_of 2 10 28))
+
+abbrev pub scheduled : Unscheduled × Option Schedule → Batch
+scheduled p = record { slot = p.0.slot; entropy = p.0.entropy; gas = p.0.gas; reports = p.0.reports; preimages = p.0.preimages; schedule = p.1 }
+
+abbrev pub unscheduled : Batch → Unscheduled
+unscheduled b = record { slot = b.slot; entropy = b.entropy; gas = b.gas; reports = b.reports; preimages = b.preimages }
+
+-- these fields, and then nothing, or the byte 1 and a schedule
+abbrev pub batch_format : Format Batch
+batch_format = by scheduled (λ b. (unscheduled b, b.schedule)) (with_tail unscheduled_format (behind_one schedule_format))

@@ -1,11 +1,13 @@
 // Items of a report.
-ghost use Rattle.std.specs.Prelude.{◌≡◌, ◌≤◌, ◌++◌, OnOk, length};
-ghost use Rattle.jam_fields.specs.Given.{Gives};
+ghost use Rattle.std.specs.Prelude.{◌≡◌, ◌≤◌, ◌++◌, OnOk, OnErr, length};
+ghost use Rattle.std.specs.Io.{StartsWith};
+ghost use Rattle.jam_codec.specs.Reading.{Reads};
+ghost use Rattle.jam_codec.specs.Refusal.{place_of};
 ghost use Rattle.batch_file.specs.Limits.{item_limit};
 
 use crate::result::WorkResult;
 use jam_codec::{Cursor, FileRefusal};
-use jam_fields::{Field, read_list, write_list};
+use jam_fields::{Field, Spell, read_list, write_list};
 use std::alloc::{AllocError, Global};
 use std::marker::Model;
 
@@ -28,22 +30,27 @@ impl Field for ReportItem {
     ghost format = { item_format };
 
     fn read(alloc: Global, cursor: &mut Cursor<'_>) -> Result<ReportItem, FileRefusal> {
-        Ok(ReportItem {
-            service: u32::read(alloc, cursor)?,
-            gas: u64::read(alloc, cursor)?,
-            payload_hash: <[u8; 32]>::read(alloc, cursor)?,
-            result: WorkResult::read(alloc, cursor)?,
-        })
+        let mut ahead = cursor.ahead();
+        let item = ReportItem {
+            service: u32::read(alloc, &mut ahead)?,
+            gas: u64::read(alloc, &mut ahead)?,
+            payload_hash: <[u8; 32]>::read(alloc, &mut ahead)?,
+            result: WorkResult::read(alloc, &mut ahead)?,
+        };
+        *cursor = ahead;
+        Ok(item)
     }
 
+    ghost is_format = { item_laws };
+}
+
+impl Spell for ReportItem {
     fn write(&self, out: &mut Vec<u8>) -> Result<(), AllocError> {
         self.service.write(out)?;
         self.gas.write(out)?;
         self.payload_hash.write(out)?;
         self.result.write(out)
     }
-
-    ghost is_format = { item_laws };
 }
 
 /// The items of a report, which are at most `ITEM_LIMIT`.
@@ -101,9 +108,11 @@ impl Field for ReportItems {
         Ok(ReportItems { items })
     }
 
+    ghost is_format = { items_laws };
+}
+
+impl Spell for ReportItems {
     fn write(&self, out: &mut Vec<u8>) -> Result<(), AllocError> {
         write_list(self.as_slice(), ITEM_LIMIT, out)
     }
-
-    ghost is_format = { items_laws };
 }

@@ -1,11 +1,13 @@
 // What became of an item of work.
-ghost use Rattle.std.specs.Prelude.{◌≡◌, ◌++◌, OnOk};
-ghost use Rattle.jam_fields.specs.Given.{Gives};
+ghost use Rattle.std.specs.Prelude.{◌≡◌, ◌++◌, OnOk, OnErr};
+ghost use Rattle.std.specs.Io.{StartsWith};
+ghost use Rattle.jam_codec.specs.Reading.{Reads};
+ghost use Rattle.jam_codec.specs.Refusal.{place_of};
 ghost use Rattle.batch_file.specs.BatchFile.{result_format};
 ghost use Rattle.batch_file.specs.BatchLaws.{result_laws};
 
 use jam_codec::{Cursor, FileRefusal, push_fixed};
-use jam_fields::{Blob, Field};
+use jam_fields::{Blob, Field, Spell};
 use std::alloc::{AllocError, Global};
 
 /// What became of an item of work: its output, or why there is none.
@@ -26,16 +28,26 @@ impl Field for WorkResult {
     ghost format = { result_format };
 
     fn read(alloc: Global, cursor: &mut Cursor<'_>) -> Result<WorkResult, FileRefusal> {
-        let place = cursor.place();
-        match cursor.fixed(1)? {
-            0 => Ok(WorkResult::Output(Blob::read(alloc, cursor)?)),
-            1 => Ok(WorkResult::OutOfGas),
-            2 => Ok(WorkResult::Panic),
-            3 => Ok(WorkResult::NoCode),
-            _ => Err(FileRefusal::Malformed { place }),
-        }
+        let mut ahead = cursor.ahead();
+        let result = match ahead.fixed(1)? {
+            0 => WorkResult::Output(Blob::read(alloc, &mut ahead)?),
+            1 => WorkResult::OutOfGas,
+            2 => WorkResult::Panic,
+            3 => WorkResult::NoCode,
+            _ => {
+                return Err(FileRefusal::Malformed {
+                    place: cursor.place(),
+                });
+            }
+        };
+        *cursor = ahead;
+        Ok(result)
     }
 
+    ghost is_format = { result_laws };
+}
+
+impl Spell for WorkResult {
     fn write(&self, out: &mut Vec<u8>) -> Result<(), AllocError> {
         match self {
             WorkResult::Output(bytes) => {
@@ -47,6 +59,4 @@ impl Field for WorkResult {
             WorkResult::NoCode => push_fixed(out, 1, 3),
         }
     }
-
-    ghost is_format = { result_laws };
 }

@@ -40,6 +40,10 @@ pub record IsFileFormat {A : Type 0} (f : Format A) : Type 0 where
 abbrev pub SpellsNone : {A : Type 0} → Format A → List ℕ → Type 0
 SpellsNone {A} f bytes = (x : A) → Spells f x bytes → ⊥
 
+-- no value has its spelling there, whatever follows it
+abbrev pub SpellsNoneAt : {A : Type 0} → Format A → Reading → Type 0
+SpellsNoneAt {A} f r = (x : A) (tail : List ℕ) → f.Fits x → r.rest ≡ f.spell x ++ tail → ⊥
+
 -- each value has one spelling, and bytes spell one value
 abbrev pub HasOneSpelling : {A : Type 0} → Format A → Type 0
 HasOneSpelling {A} f = (x y : A) (bytes : List ℕ) → Spells f x bytes → Spells f y bytes → x ≡ y

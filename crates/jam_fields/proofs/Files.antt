@@ -1,9 +1,9 @@
 -- What was read of a whole file.
 use Rattle.std.proofs.Common.{ℕ, List, Result, Ok, Err, IfOk}
-use Rattle.jam_codec.specs.Reading.{ReadsWhole}
+use Rattle.jam_codec.specs.Reading.{Reading, Reads, ReadsWhole}
 use Rattle.jam_codec.specs.Format.{Format, Spells, from, whole}
-use Rattle.jam_codec.specs.Laws.{AreBytes, Longest, IsFileFormat, SpellsNone}
-use Rattle.jam_codec.proofs.FormatLaws.{refused-none}
+use Rattle.jam_codec.specs.Laws.{AreBytes, Longest, IsFormat, IsFileFormat, SpellsNone, SpellsNoneAt}
+use Rattle.jam_codec.proofs.FormatLaws.{refused-none, none_spelled as nothing_spelled}
 use Rattle.jam_codec.specs.Refusal.{place_of, IfMalformed}
 use Rattle.jam_codec.specs.declared.refusal.FileRefusal.{FileRefusal}
 use Rattle.jam_codec.specs.declared.refusal.FileRefusal.TheVariants.{Malformed, NoMemory}
@@ -22,3 +22,9 @@ module _ {A : Type 0} (f : Format A) (F : IsFileFormat f) (bytes : List ℕ) whe
   longest_run (Ok x) are read = tt
   longest_run (Err (Malformed place)) are read = F.refused bytes place are read
   longest_run (Err NoMemory) are read = tt
+
+-- what a reader of one field says of the values that are spelled there
+pub none_here : {A : Type 0} (f : Format A) → IsFormat f → (result : Result A FileRefusal) (r s : Reading) → Reads place_of (λ x. x) result s (f.read r) → IfMalformed result (λ place. SpellsNoneAt f r)
+none_here f F (Ok x) r s read = tt
+none_here f F (Err (Malformed place)) r s read = nothing_spelled f F r place read
+none_here f F (Err NoMemory) r s read = tt

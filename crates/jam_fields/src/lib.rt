@@ -12,6 +12,6 @@ mod row;
 pub use blob::Blob;
 pub use field::{Field, Spell};
 pub use file::{read_file, read_file_with_tail, write_file};
-pub use list::{read_list, write_list};
+pub use list::{read_list, write_items, write_list};
 pub use number::read_natural;
 pub use row::{Row, read_rows};

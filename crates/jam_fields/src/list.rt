@@ -46,7 +46,11 @@ pub fn read_list<T: Field>(
     Ok(items)
 }
 
-fn write_items<T: Spell>(items: &[T], out: &mut Vec<u8>) -> Result<(), AllocError>
+/// Adds the values, with no count before them.
+///
+/// # Errors
+/// Want of memory; then a part may stand behind the bytes that were there.
+pub fn write_items<T: Spell>(items: &[T], out: &mut Vec<u8>) -> Result<(), AllocError>
     ensures ok { OnOk result (out.new.items ≡ out.old.items ++ items_spelled (λ _. T.format) None items.now) }
     ensures fits { OnOk result (items_fit (λ _. T.format) (length items.now) None items.now) }
     ensures kept { OnErr result (StartsWith out.new.items out.old.items) }

@@ -1,6 +1,6 @@
 use Rattle.std.proofs.Common.{subst, OnOk}
 use Rattle.batch_file.specs.BatchFile.{reports_format}
-use Rattle.batch_file.proofs.report.ReportsField.write.Goals as goal
+use Rattle.batch_file.proofs.report.ReportsSpell.write.Goals as goal
 
 pub returns-clause-fits : goal.returns-clause-fits
 returns-clause-fits c = subst (λ items. OnOk c.write_list.result (reports_format.Fits items)) c.as_slice.ensures.value c.write_list.ensures.fits
