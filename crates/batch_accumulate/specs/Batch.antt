@@ -1,29 +1,17 @@
 -- What a batch makes of a state (Gray Paper 0.7.0, chapter 12; the rule is this project's own): a function of values alone.
-use Rattle.std.specs.Prelude.{[], length}
+-- A batch has no reports for now, so that no service is run and no transfer is made: its deliveries come to the prior accounts.
+use Rattle.std.specs.Prelude.{length}
 use Rattle.jam_accounts.specs.Accounts.{State}
 use Rattle.batch_file.specs.declared.batch.Batch.{Batch}
 use Rattle.batch_accumulate.specs.declared.posterior.Posterior.{Posterior}
-use Rattle.batch_accumulate.specs.Deliveries.{Delivered, after_deliveries}
-use Rattle.batch_accumulate.specs.Groups.{Runs, Grouped, grouped, transferred}
+use Rattle.batch_accumulate.specs.Deliveries.{Delivered, none_stored, after_deliveries}
 
--- 1. the reports in groups; 2. and 3. the transfers are credited, and the services that they went to are run; 4. the deliveries.
--- The batch's slot and entropy become the state's.
-abbrev pub posterior_by : Runs → State → Batch → Posterior
-posterior_by runs prior batch =
-    let done : Grouped = grouped runs prior.accounts batch.gas batch.reports in
-    let delivered : Delivered = after_deliveries batch.slot (record { accounts = transferred runs done.accounts done.transfers; stored = 0 }) batch.preimages in
+-- the prior state with version 2, with the batch's slot and entropy, and with the deliveries in their order; no report is taken up
+abbrev pub posterior_of : State → Batch → Posterior
+posterior_of prior batch =
+    let delivered : Delivered = after_deliveries batch.slot (none_stored prior.accounts) batch.preimages in
     record {
-      state = record prior { slot = batch.slot; entropy = batch.entropy; accounts = delivered.accounts };
-      left_out = length done.reports;
+      state = record prior { version = 2; slot = batch.slot; entropy = batch.entropy; accounts = delivered.accounts };
+      left_out = length batch.reports;
       preimages = delivered.stored;
     }
-
--- runs that change nothing: a batch has no reports for now, and of such a batch all runs make the same (`batch_law`)
-abbrev pub no_runs : Runs
-no_runs = record {
-  accumulate = λ accounts reports. record { accounts = accounts; used = 0; transfers = [] };
-  on_transfer = λ accounts credits. accounts;
-}
-
-abbrev pub posterior_of : State → Batch → Posterior
-posterior_of prior batch = posterior_by no_runs prior batch

@@ -1,42 +1,47 @@
 // Preimages that a batch delivers.
-ghost use Rattle.std.specs.Prelude.{◌≡◌, ◌+◌, ℕ, IfOk, if◌then◌else◌};
-ghost use Rattle.batch_accumulate.specs.Deliveries.{after_delivery, after_deliveries};
+ghost use Rattle.std.specs.Prelude.{◌≡◌, ◌+◌, ℕ, IfOk, OnErr, if◌then◌else◌};
+ghost use Rattle.batch_accumulate.specs.Deliveries.{none_stored, after_delivery, after_deliveries, AfterSome};
 
 use batch_file::Delivery;
-use jam_accounts::Accounts;
+use jam_accounts::{Account, Accounts};
 use std::alloc::{AllocError, Global};
 
 // Delivers bytes to a service at a slot, and answers whether they were stored. They are passed over
-// where the service's history of them is not the empty one.
+// where there is no such service, or its history of them is not the empty one. While its account is
+// changed a blank one stands in its place, which takes no memory: so it is put back at every end.
 fn deliver(
     alloc: Global,
     accounts: &mut Accounts,
     delivery: &Delivery,
     slot: u32,
 ) -> Result<bool, AllocError>
-    ensures { IfOk result (λ stored. (n : ℕ) → record { accounts = accounts.new; stored = (if stored then n + 1 else n) }
+    ensures made { IfOk result (λ stored. (n : ℕ) → record { accounts = accounts.new; stored = (if stored then n + 1 else n) }
         ≡ after_delivery slot (record { accounts = accounts.old; stored = n }) delivery.now) }
+    ensures err { OnErr result (accounts.new ≡ accounts.old) }
 {
-    let Some(mut account) = accounts.remove(delivery.service) else {
+    let id = delivery.service;
+    if accounts.get(id).is_none() {
         return Ok(false);
-    };
-    let stored = account.receive(alloc, delivery.bytes.as_slice(), slot)?;
-    accounts.put(delivery.service, account)?;
-    Ok(stored)
+    }
+    let mut account = accounts.replace(id, Account::blank(alloc));
+    let stored = account.receive(alloc, delivery.bytes.as_slice(), slot);
+    accounts.replace(id, account);
+    stored
 }
 
 /// Delivers preimages in their order, and answers how many were stored.
 ///
 /// # Errors
-/// Want of memory; some may have been stored then.
+/// Want of memory; the first of them may have been delivered then, and no account is lost.
 pub fn deliver_all(
     alloc: Global,
     accounts: &mut Accounts,
     deliveries: &[Delivery],
     slot: u32,
 ) -> Result<u64, AllocError>
-    ensures { IfOk result (λ stored. record { accounts = accounts.new; stored = stored }
-        ≡ after_deliveries slot (record { accounts = accounts.old; stored = 0 }) deliveries.now) }
+    ensures made { IfOk result (λ stored. record { accounts = accounts.new; stored = stored }
+        ≡ after_deliveries slot (none_stored accounts.old) deliveries.now) }
+    ensures err { OnErr result (AfterSome slot accounts.old deliveries.now accounts.new) }
 {
     let mut stored = 0;
     for delivery in deliveries {

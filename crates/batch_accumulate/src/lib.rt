@@ -5,5 +5,5 @@ mod deliveries;
 mod laws;
 mod posterior;
 
-pub use laws::batch_law;
+pub use laws::deliveries_law;
 pub use posterior::{Posterior, accumulate_batch};

@@ -17,9 +17,10 @@ pub struct Posterior {
     pub preimages: u64,
 }
 
-/// The state that a batch makes of the one before, which is only read: the batch's slot and entropy
-/// become the state's, and each delivered preimage, in order, is stored with the batch's slot as its
-/// history where its service's history of it is the empty one. A batch has no reports for now.
+/// The state that a batch makes of the one before, which is only read. It has version 2, and the
+/// batch's slot and entropy. Each delivered preimage, in order, is stored with the batch's slot as
+/// its history where its service is there, and the service's history of it is the empty one. A
+/// batch has no reports for now.
 ///
 /// # Errors
 /// Want of memory.

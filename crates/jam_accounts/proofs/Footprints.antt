@@ -1,13 +1,13 @@
 -- Items by the lengths of the maps, and items against octets.
-use Rattle.std.proofs.Common.{◌≡◌, ℕ, suc, ◌+◌, ◌*◌, ◌≤◌, ◌<◌, ◌^◌, List, [], ◌∷◌, length, refl, ap, sym, ◌∙◌, subst, arith, Bool, true, false, Some, None, Option, option_map, is_some, unwrap_or}
+use Rattle.std.proofs.Common.{Ordering, ◌≡◌, ℕ, suc, ◌+◌, ◌*◌, ◌≤◌, ◌<◌, ◌^◌, List, [], ◌∷◌, length, refl, ap, sym, ◌∙◌, subst, arith, Bool, true, false, Some, None, Option, option_map, is_some, unwrap_or}
 use Rattle.std.specs.Prelude.{T, nat_lt, if◌then◌else◌}
 use Rattle.std.specs.List.{sum_by}
 use Rattle.std.specs.FinMap as fin
 use Rattle.std.proofs.lemmas.List.Sums.{sum_by-cons}
 use Rattle.std.specs.Cmp.Lexicographic.{nat_list_cmp_total}
-use Rattle.jam_accounts.proofs.Maps.{bytes_same, lookups_total, lookups_same}
+use Rattle.jam_accounts.proofs.Maps.{no_entries, bytes_same, lookups_total, lookups_same}
 use Rattle.jam_accounts.proofs.Sums.{sum_by-insert, sum_by-remove-le}
-use Rattle.jam_accounts.specs.Accounts.{Account, Values, Histories}
+use Rattle.jam_accounts.specs.Accounts.{Account, Storage, Lookups}
 use Rattle.jam_accounts.specs.Footprint.{items_of, octets_of, value_octets, history_octets, storage_octets, lookups_octets, fitting, weight_at, IsBounded}
 
 sum_by-constant : {A : Type 0} (n : ℕ) (xs : List A) → sum_by (λ (_ : A). n) xs ≡ n * length xs
@@ -25,7 +25,11 @@ sum_by-le-sum_by f g h [] = omega arith
 sum_by-le-sum_by f g h (x ∷ xs) =
     at_most (f x) (g x) (sum_by f xs) (sum_by g xs) (sum_by f (x ∷ xs)) (sum_by g (x ∷ xs)) (sum_by-cons f x xs) (sum_by-cons g x xs) (h x) (sum_by-le-sum_by f g h xs)
 
-module _ (storage : Values) (lookups : Histories) where
+-- nothing takes up nothing
+pub no_octets : {K X : Type 0} (R : K → K → Ordering) (f : K × X → ℕ) (m : fin.FinMap R X) → m ≡ fin.empty → sum_by f (fin.entries m) ≡ 0
+no_octets R f m none = ap (λ x. sum_by f (fin.entries x)) none ∙ ap (sum_by f) (no_entries R)
+
+module _ (storage : Storage) (lookups : Lookups) where
   values_count : sum_by (λ (_ : List ℕ × List ℕ). 1) (fin.entries storage) ≡ fin.len storage
   values_count = sum_by-constant 1 (fin.entries storage) ∙ one (length (fin.entries storage)) ∙ sym (fin.len-entries storage)
     where
@@ -59,14 +63,14 @@ pub items_below : (account : Account) → items_of account ≤ octets_of account
 items_below account = omega (arith, values_le account.storage account.lookups, histories_le account.storage account.lookups)
 
 -- what takes up less still fits
-pub storage_less : (m n : Values) (key : List ℕ) (rest : ℕ) → n ≡ fin.remove m key → storage_octets m + rest < 2 ^ 100 → storage_octets n + rest < 2 ^ 100
+pub storage_less : (m n : Storage) (key : List ℕ) (rest : ℕ) → n ≡ fin.remove m key → storage_octets m + rest < 2 ^ 100 → storage_octets n + rest < 2 ^ 100
 storage_less m n key rest is h =
-    let le : storage_octets n ≤ storage_octets m = subst (λ (x : Values). storage_octets x ≤ storage_octets m) (sym is) (sum_by-remove-le nat_list_cmp_total bytes_same value_octets m key) in
+    let le : storage_octets n ≤ storage_octets m = subst (λ (x : Storage). storage_octets x ≤ storage_octets m) (sym is) (sum_by-remove-le nat_list_cmp_total bytes_same value_octets m key) in
     omega (arith, le, h)
 
-pub lookups_less : (m n : Histories) (key : List ℕ × ℕ) (rest : ℕ) → n ≡ fin.remove m key → rest + lookups_octets m < 2 ^ 100 → rest + lookups_octets n < 2 ^ 100
+pub lookups_less : (m n : Lookups) (key : List ℕ × ℕ) (rest : ℕ) → n ≡ fin.remove m key → rest + lookups_octets m < 2 ^ 100 → rest + lookups_octets n < 2 ^ 100
 lookups_less m n key rest is h =
-    let le : lookups_octets n ≤ lookups_octets m = subst (λ (x : Histories). lookups_octets x ≤ lookups_octets m) (sym is) (sum_by-remove-le lookups_total lookups_same history_octets m key) in
+    let le : lookups_octets n ≤ lookups_octets m = subst (λ (x : Lookups). lookups_octets x ≤ lookups_octets m) (sym is) (sum_by-remove-le lookups_total lookups_same history_octets m key) in
     omega (arith, le, h)
 
 fitted_as : (b : Bool) (n x : ℕ) → (if b then Some n else None) ≡ Some x → x ≡ n
@@ -81,7 +85,7 @@ weighs_there None history n e = absurd (subst T (sym (ap is_some e)) tt)
 weighs_there (Some other) history n e = refl
 
 -- a history in place of one that is there takes up as much
-pub lookups_replaced : (m n : Histories) (key : List ℕ × ℕ) (old new : List ℕ) → fin.get m key ≡ Some old → n ≡ fin.insert m key new → lookups_octets n ≡ lookups_octets m
+pub lookups_replaced : (m n : Lookups) (key : List ℕ × ℕ) (old new : List ℕ) → fin.get m key ≡ Some old → n ≡ fin.insert m key new → lookups_octets n ≡ lookups_octets m
 lookups_replaced m n key old new there is =
     let sums : lookups_octets (fin.insert m key new) + weight_at history_octets m key ≡ lookups_octets m + (81 + key.1) = sum_by-insert lookups_total lookups_same history_octets m key new in
     let weight : weight_at history_octets m key ≡ 81 + key.1 = weighs_there (fin.get m key) old (81 + key.1) there in

@@ -1,26 +1,30 @@
 -- Maps of the program, seen as finite maps: look-ups, inserts and removals.
-use Rattle.std.proofs.Common.{◌≡◌, ℕ, suc, Bool, true, false, cond, List, [], ◌∷◌, Some, None, Option, option_map, refl, sym, ap, subst, ◌∙◌, Ordering, length, arith, is_some, unwrap_or}
+use Rattle.std.proofs.Common.{◌≡◌, ℕ, suc, Bool, true, false, cond, List, [], ◌∷◌, Some, None, Option, option_map, refl, sym, ap, subst, ◌∙◌, Ordering, length, arith, is_some, unwrap_or, IsSome, Result, Ok, Err, OnErr}
 use Rattle.std.specs.Prelude.{T}
 use Rattle.std.specs.declared.cmp.Ordering.TheVariants.{Less, Equal, Greater}
 use Rattle.std.specs.Ordering.{match_ordering, eq_by_cmp, is_eq}
-use Rattle.std.specs.Cmp.{IsTotalOrder, eq_by_cmp_equiv}
+use Rattle.std.specs.Cmp.{IsTotalOrder}
 use Rattle.std.specs.Cmp.{nat_cmp_total}
 use Rattle.std.specs.Cmp.Lexicographic.{slice_cmp, nat_list_cmp_total}
 use Rattle.std.specs.Ordering.{nat_cmp}
 use Rattle.std.specs.List.{AllByRecursion, AllZip}
 use Rattle.std.specs.List.Sorted.{IsStrictlySortedBy}
-use Rattle.std.specs.BTreeMap.{BTreeMap, insert_entry, is_at, IsClone}
-use Rattle.std.specs.Map.{lookup, remove_entry, keys_of}
+use Rattle.std.specs.BTreeMap.{BTreeMap, insert_entry, is_at, IsClone, UpdatesBy}
+use Rattle.std.specs.Map.{lookup, keys_of, KeepsOthers}
 use Rattle.std.specs.FinMap as fin
 use Rattle.std.specs.FinMap.{IsAntisymmetric, nat_cmp-IsAntisymmetric, slice_cmp-IsAntisymmetric}
 use Rattle.jam_accounts.specs.Accounts.{OfEachEntry}
 use Rattle.std.specs.FinMap.Entries.{put, by_order, find-put}
-use Rattle.std.proofs.lemmas.Map.{lookup-remove_entry}
-use Rattle.std.proofs.lemmas.Map.Keys.{sorted_head, sorted_tail, IsDistinct-from_sorted}
+use Rattle.std.proofs.lemmas.Map.Keys.{sorted_head, sorted_tail}
 use Rattle.std.proofs.lemmas.Map.Lookups.{exact_pairs, exact_bytes, exact_unsigned}
 use Rattle.std.proofs.lemmas.Cmp.{on_total, then_total}
-use Rattle.jam_accounts.specs.Accounts.{lookup_cmp}
+use Rattle.jam_codec.specs.Lists.{hash_and_number_cmp}
 use Rattle.jam_accounts.specs.Seen.{plain, seen}
+
+-- what is so whatever was answered
+pub on_err : {A E P : Type 0} (r : Result A E) → P → OnErr r P
+on_err (Ok x) p = tt
+on_err (Err e) p = p
 
 module _ {L X : Type 0} (R : L → L → Ordering) where
   pub find_is : (q : L) (es : List (L × X)) → fin.find R q es ≡ lookup (is_at (R q)) es
@@ -36,7 +40,7 @@ module _ {L X : Type 0} (R : L → L → Ordering) where
   put_below k v [] h = refl
   put_below k v (e ∷ es) h = rw h.0 refl
 
-  no_entries : fin.entries (fin.empty {X = X} {R = R}) ≡ []
+  pub no_entries : fin.entries (fin.empty {X = X} {R = R}) ≡ []
   no_entries = nothing (fin.entries (fin.empty {X = X} {R = R})) (sym (fin.len-entries (fin.empty {X = X} {R = R})) ∙ fin.len-empty R X)
 
   entries-from_entries : IsTotalOrder R → (es : List (L × X)) → IsStrictlySortedBy R (keys_of es) → fin.entries (fin.from_entries {R = R} es) ≡ es
@@ -73,15 +77,6 @@ module _ {K V L X : Type 0} (R : L → L → Ordering) (key : K → L) (value : 
   insert_plain [] k v = refl
   insert_plain (e ∷ es) k v = placed (R (key k) (key e.0)) k v e es _ _ (insert_plain es k v)
 
-  left_out : (b : Bool) (e : K × V) (es rest : List (K × V)) (more : List (L × X)) → plain key value rest ≡ more
-      → plain key value (cond b es (e ∷ rest)) ≡ cond b (plain key value es) ((key e.0, value e.1) ∷ more)
-  left_out true e es rest more p = refl
-  left_out false e es rest more p = ap (λ (xs : List (L × X)). (key e.0, value e.1) ∷ xs) p
-
-  remove_plain : (q : L) (es : List (K × V)) → plain key value (remove_entry (is_at (λ k. R q (key k))) es) ≡ remove_entry (is_at (R q)) (plain key value es)
-  remove_plain q [] = refl
-  remove_plain q (e ∷ es) = left_out (is_at (R q) (key e.0)) e es _ _ (remove_plain q es)
-
   below_plain : (k : K) (es : List (K × V)) → AllByRecursion (λ y. R (key k) (key y) ≡ Less) (keys_of es) → AllByRecursion (λ y. R (key k) y ≡ Less) (keys_of (plain key value es))
   below_plain k [] h = tt
   below_plain k (e ∷ es) h = (h.0, below_plain k es h.1)
@@ -112,6 +107,13 @@ module _ {K V L X : Type 0} (R : L → L → Ordering) (key : K → L) (value : 
     pub got : (m : BTreeMap K V) (q : L) → fin.get (seen R key value m) q ≡ option_map value (lookup (is_at (λ k. R q (key k))) m.entries)
     got m q = fin.get-from_entries o (plain key value m.entries) q ∙ find_is R q (plain key value m.entries) ∙ lookup_plain q m.entries
 
+    -- where the program's map has nothing, nothing is seen
+    pub nothing_seen : (m : BTreeMap K V) (k : K) → lookup (is_at (λ x. R (key k) (key x))) m.entries ≡ None → fin.get (seen R key value m) (key k) ≡ None
+    nothing_seen m k none = got m (key k) ∙ ap (option_map value) none
+
+    pub something_seen : (m : BTreeMap K V) (k : K) (seen_as : fin.FinMap R X) → seen R key value m ≡ seen_as → IsSome (fin.get seen_as (key k)) → lookup (is_at (λ x. R (key k) (key x))) m.entries ≡ None → ⊥
+    something_seen m k seen_as is some none = cc (subst IsSome (sym (ap (λ s. fin.get s (key k)) is) ∙ nothing_seen m k none) some)
+
     pub entries_seen : (m : BTreeMap K V) → IsStrictlySortedBy (λ x y. R (key x) (key y)) (keys_of m.entries) → fin.entries (seen R key value m) ≡ plain key value m.entries
     entries_seen m s = entries-from_entries R o (plain key value m.entries) (sorted_plain m.entries s)
 
@@ -127,14 +129,21 @@ module _ {K V L X : Type 0} (R : L → L → Ordering) (key : K → L) (value : 
           ∙ ap (cond (eq_by_cmp R q (key k)) (Some (value v))) (sym (fin.get-from_entries o (plain key value m.entries) q))
           ∙ sym (fin.get-insert o (seen R key value m) (key k) (value v) q))
 
-      pub removed : (m n : BTreeMap K V) (k : L) → IsStrictlySortedBy (λ x y. R (key x) (key y)) (keys_of m.entries) → n.entries ≡ remove_entry (is_at (λ x. R k (key x))) m.entries → seen R key value n ≡ fin.remove (seen R key value m) k
-      removed m n k s h = fin.same_map o same (seen R key value n) (fin.remove (seen R key value m) k) (λ q.
-          fin.get-from_entries o (plain key value n.entries) q
-          ∙ find_is R q (plain key value n.entries)
-          ∙ ap (lookup (is_at (R q))) (ap (plain key value) h ∙ remove_plain k m.entries)
-          ∙ lookup-remove_entry (eq_by_cmp_equiv o) (is_at (R k)) (λ x y t. tied o k x y t) q (plain key value m.entries) (IsDistinct-from_sorted R (keys_of (plain key value m.entries)) (sorted_plain m.entries s))
-          ∙ ap (λ b. cond b None (lookup (is_at (R q)) (plain key value m.entries))) ((eq_by_cmp_equiv o).symm k q)
-          ∙ ap (cond (eq_by_cmp R q k) None) (sym (find_is R q (plain key value m.entries)) ∙ sym (fin.get-from_entries o (plain key value m.entries) q))
+      -- a query for another key than the one that was taken out
+      apart : (k q : L) → is_eq (R q k) ≡ false → (x : K) → is_eq (R k (key x)) ≡ true → is_eq (R q (key x)) ≡ false
+      apart k q other x here = ap (λ y. is_eq (R q y)) (sym (same k (key x) (equal (R k (key x)) here))) ∙ other
+
+      found_after : (m n : BTreeMap K V) (k q : L) → UpdatesBy (λ x y. R (key x) (key y)) (λ x. R k (key x)) m n None → (b : Bool) → eq_by_cmp R q k ≡ b
+          → option_map value (lookup (is_at (λ x. R q (key x))) n.entries) ≡ cond b None (option_map value (lookup (is_at (λ x. R q (key x))) m.entries))
+      unfolding KeepsOthers
+      found_after m n k q u true here =
+          ap (λ (p : L). option_map value (lookup (is_at (λ x. R p (key x))) n.entries)) (same q k (equal (R q k) here)) ∙ ap (option_map value) u.1
+      found_after m n k q u false other = ap (option_map value) (u.3 (is_at (λ x. R q (key x))) (λ x y at. tied o q (key x) (key y) at) (apart k q other))
+
+      pub removed : (m n : BTreeMap K V) (k : L) → UpdatesBy (λ x y. R (key x) (key y)) (λ x. R k (key x)) m n None → seen R key value n ≡ fin.remove (seen R key value m) k
+      removed m n k u = fin.same_map o same (seen R key value n) (fin.remove (seen R key value m) k) (λ q.
+          got n q ∙ found_after m n k q u (eq_by_cmp R q k) refl
+          ∙ ap (cond (eq_by_cmp R q k) None) (sym (got m q))
           ∙ sym (fin.get-remove o (seen R key value m) k q))
 
 same_Some : {A : Type 0} (x y : A) → Some x ≡ Some y → x ≡ y
@@ -171,21 +180,36 @@ module _ {K X : Type 0} {R : K → K → Ordering} (P : K → X → Type 0) wher
   pub nothing_at : (m : fin.FinMap R X) (q : K) → OfEachEntry P m → ((w : X) → P q w → ⊥) → fin.get m q ≡ None
   nothing_at m q h never = none_at (P q) (fin.get m q) (h q) never
 
-put_twice : {A : Type 0} (b : Bool) (v : Option A) (other : Option A) → cond b v (cond b None other) ≡ cond b v other
-put_twice true v other = refl
-put_twice false v other = refl
+either_put : {A : Type 0} (b : Bool) (new old other : Option A) → cond b new (cond b old other) ≡ cond b new other
+either_put true new old other = refl
+either_put false new old other = refl
 
--- what is taken out and put back is as if it were put in its place
-pub inserted_back : {K X : Type 0} {R : K → K → Ordering} → IsTotalOrder R → IsAntisymmetric R → (m : fin.FinMap R X) (k : K) (v : X) → fin.insert (fin.remove m k) k v ≡ fin.insert m k v
-inserted_back {R = R} o same m k v = fin.same_map o same (fin.insert (fin.remove m k) k v) (fin.insert m k v) (λ q.
-    fin.get-insert o (fin.remove m k) k v q ∙ ap (cond (eq_by_cmp R q k) (Some v)) (fin.get-remove o m k q)
-    ∙ put_twice (eq_by_cmp R q k) (Some v) (fin.get m q) ∙ sym (fin.get-insert o m k v q))
+module _ {K X : Type 0} {R : K → K → Ordering} (o : IsTotalOrder R) (same : IsAntisymmetric R) (m : fin.FinMap R X) (k : K) where
+  -- what is taken out and put back is as if it were put in its place
+  pub inserted_back : (v : X) → fin.insert (fin.remove m k) k v ≡ fin.insert m k v
+  inserted_back v = fin.same_map o same (fin.insert (fin.remove m k) k v) (fin.insert m k v) (λ q.
+      fin.get-insert o (fin.remove m k) k v q ∙ ap (cond (eq_by_cmp R q k) (Some v)) (fin.get-remove o m k q)
+      ∙ either_put (eq_by_cmp R q k) (Some v) None (fin.get m q) ∙ sym (fin.get-insert o m k v q))
+
+  -- of two that are put in one place the later stays
+  pub inserted_twice : (u v : X) → fin.insert (fin.insert m k u) k v ≡ fin.insert m k v
+  inserted_twice u v = fin.same_map o same (fin.insert (fin.insert m k u) k v) (fin.insert m k v) (λ q.
+      fin.get-insert o (fin.insert m k u) k v q ∙ ap (cond (eq_by_cmp R q k) (Some v)) (fin.get-insert o m k u q)
+      ∙ either_put (eq_by_cmp R q k) (Some v) (Some u) (fin.get m q) ∙ sym (fin.get-insert o m k v q))
+
+  same_get : (b : Bool) (q : K) (found : Option X) → fin.get m k ≡ found → eq_by_cmp R q k ≡ b → cond b found (fin.get m q) ≡ fin.get m q
+  same_get true q found there here = sym there ∙ ap (fin.get m) (sym (same q k (equal (R q k) here)))
+  same_get false q found there other = refl
+
+  -- what stands in its place may be put there again
+  pub inserted_same : (v : X) → fin.get m k ≡ Some v → fin.insert m k v ≡ m
+  inserted_same v there = fin.same_map o same (fin.insert m k v) m (λ q. fin.get-insert o m k v q ∙ same_get (eq_by_cmp R q k) q (Some v) there refl)
 
 pub bytes_same : IsAntisymmetric (slice_cmp nat_cmp)
 bytes_same = slice_cmp-IsAntisymmetric nat_cmp-IsAntisymmetric
 
-pub lookups_total : IsTotalOrder lookup_cmp
+pub lookups_total : IsTotalOrder hash_and_number_cmp
 lookups_total = then_total (on_total (λ (k : List ℕ × ℕ). k.0) nat_list_cmp_total) (on_total (λ (k : List ℕ × ℕ). k.1) nat_cmp_total)
 
-pub lookups_same : IsAntisymmetric lookup_cmp
+pub lookups_same : IsAntisymmetric hash_and_number_cmp
 lookups_same a b h = exact_pairs (slice_cmp nat_cmp) nat_cmp exact_bytes exact_unsigned a b h

@@ -1,32 +1,30 @@
--- The state of the services: their accounts and what these hold (Gray Paper 0.7.0, chapter 9).
-use Rattle.std.specs.Prelude.{◌≡◌, ℕ, ◌<◌, ◌^◌, Bool, false, List, length, Option, Some, None, if◌then◌else◌}
+-- The state of the services: their accounts and what these hold (Gray Paper 0.7.0, chapter 9). The shape of accounts and the
+-- versions of states are this project's own.
+use Rattle.std.specs.Prelude.{◌≡◌, ℕ, ◌<◌, ◌^◌, ◌==◌, ◌||◌, Bool, true, false, List, length, replicate, Option, Some, None, if◌then◌else◌}
 use Rattle.std.specs.Option.{option_and_then}
-use Rattle.std.specs.Ordering.{nat_cmp, ordering_then}
+use Rattle.std.specs.Ordering.{nat_cmp}
 use Rattle.std.specs.declared.cmp.Ordering.{Ordering}
 use Rattle.std.specs.Cmp.Lexicographic.{slice_cmp}
 use Rattle.std.specs.FinMap as fin
 use Rattle.blake2b_core.specs.Blake2b.{digest}
+use Rattle.jam_codec.specs.Lists.{hash_and_number_cmp}
 use Rattle.preimage_store.specs.History.{available}
 
 -- strings of bytes: byte by byte, and a proper prefix first
 abbrev pub bytes_cmp : List ℕ → List ℕ → Ordering
 bytes_cmp = slice_cmp nat_cmp
 
--- by hash, and then by length
-abbrev pub lookup_cmp : List ℕ × ℕ → List ℕ × ℕ → Ordering
-lookup_cmp a b = ordering_then (slice_cmp nat_cmp a.0 b.0) (nat_cmp a.1 b.1)
-
 -- what a service keeps: values by key
-abbrev pub Values : Type 0
-Values = fin.FinMap bytes_cmp (List ℕ)
+abbrev pub Storage : Type 0
+Storage = fin.FinMap bytes_cmp (List ℕ)
 
 -- preimages by digest
-abbrev pub Contents : Type 0
-Contents = fin.FinMap bytes_cmp (List ℕ)
+abbrev pub Preimages : Type 0
+Preimages = fin.FinMap bytes_cmp (List ℕ)
 
--- histories of the preimages asked for, by digest and length
-abbrev pub Histories : Type 0
-Histories = fin.FinMap lookup_cmp (List ℕ)
+-- histories of the preimages asked for, by hash and length
+abbrev pub Lookups : Type 0
+Lookups = fin.FinMap hash_and_number_cmp (List ℕ)
 
 -- the account of a service
 pub record Account : Type 0 where
@@ -34,31 +32,65 @@ pub record Account : Type 0 where
   pub balance : ℕ
   pub min_accumulate : ℕ
   pub min_transfer : ℕ
-  pub storage : Values
-  pub preimages : Contents
-  pub lookups : Histories
+  -- what the balance may be lower for
+  pub gratis : ℕ
+  -- the slot at which the service was made
+  pub created : ℕ
+  pub storage : Storage
+  pub preimages : Preimages
+  pub lookups : Lookups
+
+-- an account that has nothing
+abbrev pub blank_account : Account
+blank_account = record {
+  code_hash = replicate 32 0;
+  balance = 0;
+  min_accumulate = 0;
+  min_transfer = 0;
+  gratis = 0;
+  created = 0;
+  storage = fin.empty;
+  preimages = fin.empty;
+  lookups = fin.empty;
+}
 
 -- accounts by the service's number
-abbrev pub Services : Type 0
-Services = fin.FinMap nat_cmp Account
+abbrev pub Accounts : Type 0
+Accounts = fin.FinMap nat_cmp Account
 
 pub record State : Type 0 where
   pub version : ℕ
   pub slot : ℕ
   pub entropy : List ℕ
-  pub accounts : Services
+  pub accounts : Accounts
 
 -- of each key and the value there
 abbrev pub OfEachEntry : {K X : Type 0} {R : K → K → Ordering} → (K → X → Type 0) → fin.FinMap R X → Type 0
 OfEachEntry {K} {X} P m = (key : K) (value : X) → fin.get m key ≡ Some value → P key value
 
 -- each preimage stands under its digest
-abbrev pub StandUnderDigests : Contents → Type 0
+abbrev pub StandUnderDigests : Preimages → Type 0
 StandUnderDigests = OfEachEntry (λ hash bytes. hash ≡ digest bytes)
 
 -- the lengths that histories stand under are numbers of four bytes
-abbrev pub HaveShortLengths : Histories → Type 0
+abbrev pub HaveShortLengths : Lookups → Type 0
 HaveShortLengths = OfEachEntry (λ key history. key.1 < 2 ^ 32)
+
+-- the versions of states
+abbrev pub is_version : ℕ → Bool
+is_version version = (version == 1) || (version == 2)
+
+-- in version 1 an account has neither gratis nor a slot at which it was made
+abbrev pub IsOfVersion : ℕ → Account → Type 0
+IsOfVersion version account = version ≡ 1 → (account.gratis ≡ 0) × (account.created ≡ 0)
+
+abbrev pub AreOfVersion : ℕ → Accounts → Type 0
+AreOfVersion version = OfEachEntry (λ id account. IsOfVersion version account)
+
+-- the version is one of them, and the accounts are of it
+pub record IsVersioned (state : State) : Type 0 where
+  pub known : is_version state.version ≡ true
+  pub accounts : AreOfVersion state.version state.accounts
 
 -- there is a history, and it says that the preimage is available at a time
 abbrev pub is_available : Option (List ℕ) → ℕ → Bool

@@ -1,9 +1,9 @@
--- What an account takes up, and the balance that it needs for that (Gray Paper 0.7.0, chapter 9).
-use Rattle.std.specs.Prelude.{ℕ, ◌+◌, ◌*◌, ◌≤◌, ◌<◌, ◌^◌, List, length, Option, Some, None, option_map, unwrap_or, nat_lt, if◌then◌else◌}
+-- What an account takes up, and the balance that it needs for that (Gray Paper 0.7.0, chapter 9; the deposits are this project's own).
+use Rattle.std.specs.Prelude.{ℕ, ◌+◌, ◌-◌, ◌*◌, ◌≤◌, ◌<◌, ◌^◌, List, length, Option, Some, None, option_map, unwrap_or, nat_lt, if◌then◌else◌}
 use Rattle.std.specs.declared.cmp.Ordering.{Ordering}
 use Rattle.std.specs.List.{sum_by}
 use Rattle.std.specs.FinMap as fin
-use Rattle.jam_accounts.specs.Accounts.{Account, Values, Histories}
+use Rattle.jam_accounts.specs.Accounts.{Account, Storage, Lookups}
 
 -- two for each history and one for each value
 abbrev pub items_of : Account → ℕ
@@ -23,10 +23,10 @@ history_octets entry = 81 + entry.0.1
 abbrev pub weight_at : {K X : Type 0} {R : K → K → Ordering} → (K × X → ℕ) → fin.FinMap R X → K → ℕ
 weight_at weight m key = unwrap_or (option_map (λ value. weight (key, value)) (fin.get m key)) 0
 
-abbrev pub storage_octets : Values → ℕ
+abbrev pub storage_octets : Storage → ℕ
 storage_octets storage = sum_by value_octets (fin.entries storage)
 
-abbrev pub lookups_octets : Histories → ℕ
+abbrev pub lookups_octets : Lookups → ℕ
 lookups_octets lookups = sum_by history_octets (fin.entries lookups)
 
 abbrev pub octets_of : Account → ℕ
@@ -43,9 +43,9 @@ pub record Footprint : Type 0 where
 abbrev pub footprint_of : Account → Footprint
 footprint_of account = record { items = items_of account; octets = octets_of account }
 
--- the balance that an account with this footprint needs
-abbrev pub threshold_of : Footprint → ℕ
-threshold_of footprint = 100 + 10 * footprint.items + footprint.octets
+-- the balance that an account with this footprint needs: nothing where the gratis covers its deposits (a difference of naturals ends at 0)
+abbrev pub threshold_of : Footprint → ℕ → ℕ
+threshold_of footprint gratis = 100 + 10 * footprint.items + footprint.octets - gratis
 
 -- the bounds of every footprint
 pub record IsBounded (footprint : Footprint) : Type 0 where

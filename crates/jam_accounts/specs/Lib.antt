@@ -1,5 +1,6 @@
 pub mod Accounts
+pub mod Fields
 pub mod Footprint
-pub mod Codes
+pub mod Coded
 pub mod Seen
 pub mod Receipt

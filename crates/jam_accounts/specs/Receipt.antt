@@ -6,9 +6,9 @@ use Rattle.blake2b_core.specs.Blake2b.{digest}
 use Rattle.preimage_store.specs.History.{deliver}
 use Rattle.jam_accounts.specs.Accounts.{Account}
 
--- the history of these bytes once they are given at a slot: [slot] where it is []; none where it is another, or not there
-abbrev pub given_history : ℕ → List ℕ → Account → Option (List ℕ)
-given_history slot bytes account = option_and_then (λ history. deliver history slot) (fin.get account.lookups (digest bytes, length bytes))
+-- the history of these bytes once they are delivered at a slot: [slot] where it is []; none where it is another, or not there
+abbrev pub history_after : ℕ → List ℕ → Account → Option (List ℕ)
+history_after slot bytes account = option_and_then (λ history. deliver history slot) (fin.get account.lookups (digest bytes, length bytes))
 
 -- the account with these bytes as a preimage, and with this history of them
 abbrev pub with_preimage : List ℕ → Account → List ℕ → Account
@@ -19,4 +19,4 @@ with_preimage bytes account history = record account {
 
 -- the account after the delivery of these bytes; none where they are passed over
 abbrev pub received : ℕ → List ℕ → Account → Option Account
-received slot bytes account = option_map (with_preimage bytes account) (given_history slot bytes account)
+received slot bytes account = option_map (with_preimage bytes account) (history_after slot bytes account)

@@ -1,8 +1,8 @@
 // The account of a service.
-ghost use Rattle.std.specs.Prelude.{◌≡◌, ◌^◌, ◌<◌, ◌+◌, IfOk, OnOk, OnErr, option_map, nat_lt, is_some, unwrap_or};
+ghost use Rattle.std.specs.Prelude.{◌≡◌, ◌^◌, ◌<◌, ◌+◌, None, IfOk, OnOk, OnErr, option_map, nat_lt, is_some, IsSome, unwrap_or};
 ghost use Rattle.std.specs.FinMap as fin;
 ghost use Rattle.blake2b_core.specs.Blake2b.{digest};
-ghost use Rattle.jam_accounts.specs.Accounts.{preimage_at};
+ghost use Rattle.jam_accounts.specs.Accounts.{blank_account, preimage_at};
 ghost use Rattle.jam_accounts.specs.Receipt.{received};
 ghost use Rattle.jam_accounts.specs.Footprint.{footprint_of, storage_octets, lookups_octets, IsBounded};
 
@@ -12,14 +12,19 @@ use preimage_store::History;
 use std::alloc::{AllocError, Global};
 use std::marker::Model;
 
-/// The account of a service: its code's hash, its balance, the least gas of its entries, and what
-/// it keeps. It has fewer than 2^100 octets.
+/// The account of a service: its code's hash, its balance, the least gas of its entries, how much of
+/// its deposits is waived, the slot at which it was made, and what it keeps. It has fewer than 2^100
+/// octets.
 #[derive(Drop)]
 pub struct Account {
     pub code_hash: [u8; 32],
     pub balance: u64,
     pub min_accumulate: u64,
     pub min_transfer: u64,
+    /// How much of its deposits needs no balance.
+    pub gratis: u64,
+    /// The slot at which the service was made.
+    pub created: u32,
     pub storage: Storage,
     pub preimages: Preimages,
     pub lookups: Lookups,
@@ -27,15 +32,15 @@ pub struct Account {
 
 impl Model for Account {
     ghost use Rattle.jam_accounts.specs.Accounts.{Account};
-    ghost use Rattle.jam_accounts.specs.Codes.{account_code};
+    ghost use Rattle.jam_accounts.specs.Coded.{coded_account};
     ghost use Rattle.jam_accounts.specs.Footprint.{storage_octets, lookups_octets};
     ghost use Rattle.std.specs.Prelude.{◌<◌, ◌+◌, ◌^◌};
 
     ghost Value = { Account };
 
-    ghost coded = { account_code };
+    ghost coded = { coded_account };
 
-    ghost view = { λ a. record { code_hash = a.code_hash; balance = a.balance; min_accumulate = a.min_accumulate; min_transfer = a.min_transfer; storage = a.storage; preimages = a.preimages; lookups = a.lookups } };
+    ghost view = { λ a. record { code_hash = a.code_hash; balance = a.balance; min_accumulate = a.min_accumulate; min_transfer = a.min_transfer; gratis = a.gratis; created = a.created; storage = a.storage; preimages = a.preimages; lookups = a.lookups } };
 
     ghost invariant = { λ a. storage_octets a.storage + lookups_octets a.lookups < 2 ^ 100 };
 }
@@ -51,27 +56,20 @@ pub fn fits(storage: &Storage, lookups: &Lookups) -> bool
 }
 
 impl Account {
-    /// The account with this code, balance and least gas, which keeps these.
-    pub fn new(
-        code_hash: [u8; 32],
-        balance: u64,
-        min_accumulate: u64,
-        min_transfer: u64,
-        storage: Storage,
-        preimages: Preimages,
-        lookups: Lookups,
-    ) -> Account
-        requires { storage_octets storage + lookups_octets lookups < 2 ^ 100 }
-        ensures { result ≡ record { code_hash = code_hash; balance = balance; min_accumulate = min_accumulate; min_transfer = min_transfer; storage = storage; preimages = preimages; lookups = lookups } }
+    /// An account that has nothing: all its numbers are 0, and it keeps nothing.
+    pub fn blank(alloc: Global) -> Account
+        ensures { result ≡ blank_account }
     {
         Account {
-            code_hash,
-            balance,
-            min_accumulate,
-            min_transfer,
-            storage,
-            preimages,
-            lookups,
+            code_hash: [0; 32],
+            balance: 0,
+            min_accumulate: 0,
+            min_transfer: 0,
+            gratis: 0,
+            created: 0,
+            storage: Storage::new(alloc),
+            preimages: Preimages::new(alloc),
+            lookups: Lookups::new(alloc),
         }
     }
 
@@ -110,6 +108,8 @@ impl Account {
             balance: self.balance,
             min_accumulate: self.min_accumulate,
             min_transfer: self.min_transfer,
+            gratis: self.gratis,
+            created: self.created,
             storage: self.storage.copy()?,
             preimages: self.preimages.copy()?,
             lookups: self.lookups.copy()?,
@@ -121,11 +121,12 @@ impl Account {
     /// Keeps a value under a key, in place of the one that was there.
     ///
     /// # Errors
-    /// `AllocError` for want of memory; the account is then as before.
+    /// `AllocError` for want of memory, where there was none; the account is then as before.
     pub fn put_value(&mut self, key: Vec<u8>, value: Vec<u8>) -> Result<(), AllocError>
         requires { storage_octets (fin.insert self.old.storage key.items value.items) + lookups_octets self.old.lookups < 2 ^ 100 }
         ensures ok { OnOk result (self.new ≡ record self.old { storage = fin.insert self.old.storage key.items value.items }) }
         ensures err { OnErr result (self.new ≡ self.old) }
+        ensures absent { OnErr result (fin.get self.old.storage key.items ≡ None) }
     {
         self.storage.put(key, value)
     }
@@ -141,10 +142,11 @@ impl Account {
     /// Keeps a preimage under its digest.
     ///
     /// # Errors
-    /// `AllocError` for want of memory; the account is then as before.
+    /// `AllocError` for want of memory, where it was not there; the account is then as before.
     pub fn put_preimage(&mut self, bytes: Vec<u8>) -> Result<(), AllocError>
         ensures ok { OnOk result (self.new ≡ record self.old { preimages = fin.insert self.old.preimages (digest bytes.items) bytes.items }) }
         ensures err { OnErr result (self.new ≡ self.old) }
+        ensures absent { OnErr result (fin.get self.old.preimages (digest bytes.items) ≡ None) }
     {
         self.preimages.put(bytes)
     }
@@ -160,7 +162,7 @@ impl Account {
     /// Keeps a history in place of the one that was there.
     ///
     /// # Errors
-    /// `AllocError` for want of memory; the account is then as before.
+    /// `AllocError` for want of memory, where there was none; the account is then as before.
     pub fn put_history(
         &mut self,
         hash: &[u8; 32],
@@ -170,6 +172,7 @@ impl Account {
         requires { storage_octets self.old.storage + lookups_octets (fin.insert self.old.lookups (hash.now, length) history) < 2 ^ 100 }
         ensures ok { OnOk result (self.new ≡ record self.old { lookups = fin.insert self.old.lookups (hash.now, length) history }) }
         ensures err { OnErr result (self.new ≡ self.old) }
+        ensures absent { OnErr result (fin.get self.old.lookups (hash.now, length) ≡ None) }
     {
         self.lookups.put(hash, length, history)
     }
@@ -188,22 +191,23 @@ impl Account {
     /// it that slot as its history; else passes it over. Answers whether it was stored.
     ///
     /// # Errors
-    /// `AllocError` for want of memory; the account is then as before.
+    /// `AllocError` for want of memory, where it is to be stored; the account is then as before.
     pub fn receive(&mut self, alloc: Global, bytes: &[u8], slot: u32) -> Result<bool, AllocError>
         ensures stored { IfOk result (λ stored. stored ≡ is_some (received slot bytes.now self.old)) }
         ensures after { OnOk result (self.new ≡ unwrap_or (received slot bytes.now self.old) self.old) }
         ensures err { OnErr result (self.new ≡ self.old) }
+        ensures awaited { OnErr result (IsSome (received slot bytes.now self.old)) }
     {
         let hash = blake2b_core::digest(bytes);
         let Some(history) = self.lookups.find(&hash, bytes.len()) else {
             return Ok(false);
         };
-        let Some(given) = history.deliver(slot) else {
+        let Some(delivered) = history.deliver(slot) else {
             return Ok(false);
         };
         let content = Vec::from_slice(alloc, bytes)?;
         self.preimages.put_under(hash, content)?;
-        self.lookups.replace(&hash, bytes.len() as u32, given);
+        self.lookups.replace(&hash, bytes.len() as u32, delivered);
         Ok(true)
     }
 }

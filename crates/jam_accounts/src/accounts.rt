@@ -1,5 +1,5 @@
 // Accounts by the service's number.
-ghost use Rattle.std.specs.Prelude.{◌≡◌, ◌^◌, ◌<◌, OnOk, OnErr, IfOk, option_map, length};
+ghost use Rattle.std.specs.Prelude.{◌≡◌, ◌^◌, ◌<◌, OnOk, OnErr, IfOk, Some, None, IsSome, option_map, length};
 ghost use Rattle.std.specs.FinMap as fin;
 ghost use Rattle.std.specs.Iterator.{at_most};
 ghost use Rattle.std.specs.Map.Iter.{TakesFirst};
@@ -18,13 +18,13 @@ pub struct Accounts {
 
 impl Model for Accounts {
     ghost use Rattle.std.specs.Ordering.{nat_cmp};
-    ghost use Rattle.jam_accounts.specs.Accounts.{Services};
-    ghost use Rattle.jam_accounts.specs.Codes.{services_code};
+    ghost use Rattle.jam_accounts.specs.Accounts.{Accounts};
+    ghost use Rattle.jam_accounts.specs.Coded.{coded_accounts};
     ghost use Rattle.jam_accounts.specs.Seen.{seen};
 
-    ghost Value = { Services };
+    ghost Value = { Accounts };
 
-    ghost coded = { services_code };
+    ghost coded = { coded_accounts };
 
     ghost view = { λ a. seen nat_cmp (λ k. k) (λ v. v) a.map };
 }
@@ -57,13 +57,28 @@ impl Accounts {
     /// Keeps an account in place of the one that was there.
     ///
     /// # Errors
-    /// `AllocError` for want of memory; the accounts are then as before.
+    /// `AllocError` for want of memory, where there was none; the accounts are then as before.
     pub fn put(&mut self, id: u32, account: Account) -> Result<(), AllocError>
         ensures ok { OnOk result (self.new ≡ fin.insert self.old id account) }
         ensures err { OnErr result (self.new ≡ self.old) }
+        ensures absent { OnErr result (fin.get self.old id ≡ None) }
     {
         self.map.insert(id, account)?;
         Ok(())
+    }
+
+    /// Puts an account in place of the one that is there, which it gives back. This takes no
+    /// memory, so an account that is taken out to be changed can always be put back.
+    pub fn replace(&mut self, id: u32, account: Account) -> Account
+        requires { IsSome (fin.get self.old id) }
+        ensures value { Some result ≡ fin.get self.old id }
+        ensures after { self.new ≡ fin.insert self.old id account }
+    {
+        match self.map.insert(id, account) {
+            Ok(Some(old)) => old,
+            Ok(None) => unreachable!(),
+            Err(_) => unreachable!(),
+        }
     }
 
     /// Takes out the account of a service, if there is one.
@@ -71,7 +86,6 @@ impl Accounts {
         ensures value { result ≡ fin.get self.old id }
         ensures after { self.new ≡ fin.remove self.old id }
     {
-        let _count = self.map.len();
         self.map.remove(&id)
     }
 }
@@ -86,12 +100,12 @@ impl<'a> Model for AccountsEntries<'a> {
     ghost use Rattle.std.specs.Prelude.{ℕ, List};
     ghost use Rattle.std.specs.Coded.{coded_list, coded×, coded_ℕ};
     ghost use Rattle.jam_accounts.specs.Accounts.{Account};
-    ghost use Rattle.jam_accounts.specs.Codes.{account_code};
+    ghost use Rattle.jam_accounts.specs.Coded.{coded_account};
     ghost use Rattle.jam_accounts.specs.Seen.{plain};
 
     ghost Value = { List (ℕ × Account) };
 
-    ghost coded = { coded_list (coded× coded_ℕ account_code) };
+    ghost coded = { coded_list (coded× coded_ℕ coded_account) };
 
     ghost view = { λ s. plain (λ k. k) (λ v. v) s.rest };
 }

@@ -9,7 +9,7 @@ pub const OCTETS_LIMIT: u128 = 1 << 100;
 
 /// The items and octets of an account. There are at least as many octets as items, and fewer than
 /// 2^100.
-#[derive(Clone, Copy, Debug, PartialEq, Eq)]
+#[derive(Clone, Copy, PartialEq, Eq)]
 pub struct Footprint {
     items: u128,
     octets: u128,
@@ -54,9 +54,11 @@ impl Footprint {
     }
 }
 
-/// The balance that an account with this footprint needs.
-pub fn threshold(footprint: Footprint) -> u128
-    ensures { result ≡ threshold_of footprint }
+/// The balance that an account with this footprint needs: its deposits less the gratis, or nothing
+/// where the gratis is more.
+pub fn threshold(footprint: Footprint, gratis: u64) -> u128
+    ensures { result ≡ threshold_of footprint gratis }
 {
-    100 + 10 * footprint.items + footprint.octets
+    let deposits = 100 + 10 * footprint.items + footprint.octets;
+    deposits.saturating_sub(u128::from(gratis))
 }

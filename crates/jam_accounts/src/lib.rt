@@ -16,5 +16,5 @@ pub use footprint::{Footprint, OCTETS_LIMIT, threshold};
 pub use laws::{footprint_laws, put_back_law};
 pub use lookups::{Lookups, LookupsEntries};
 pub use preimages::{Preimages, PreimagesEntries};
-pub use state::{State, VERSION};
+pub use state::{FIRST_VERSION, LATEST_VERSION, State, version_of};
 pub use storage::{Storage, StorageEntries};

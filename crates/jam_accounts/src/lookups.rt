@@ -1,5 +1,5 @@
 // Histories of the preimages that a service asked for.
-ghost use Rattle.std.specs.Prelude.{◌≡◌, ◌^◌, ◌<◌, OnOk, OnErr, OnSome, IsSome, IfOk, length};
+ghost use Rattle.std.specs.Prelude.{◌≡◌, ◌^◌, ◌<◌, OnOk, OnErr, OnSome, IsSome, Some, None, IfOk, length};
 ghost use Rattle.std.specs.FinMap as fin;
 ghost use Rattle.std.specs.Iterator.{at_most};
 ghost use Rattle.std.specs.Map.Iter.{TakesFirst};
@@ -19,17 +19,18 @@ pub struct Lookups {
 }
 
 impl Model for Lookups {
-    ghost use Rattle.jam_accounts.specs.Accounts.{Histories, HaveShortLengths, lookup_cmp};
-    ghost use Rattle.jam_accounts.specs.Codes.{histories_code};
+    ghost use Rattle.jam_codec.specs.Lists.{hash_and_number_cmp};
+    ghost use Rattle.jam_accounts.specs.Accounts.{Lookups, HaveShortLengths};
+    ghost use Rattle.jam_accounts.specs.Coded.{coded_lookups};
     ghost use Rattle.jam_accounts.specs.Seen.{seen};
 
-    ghost Value = { Histories };
+    ghost Value = { Lookups };
 
-    ghost coded = { histories_code };
+    ghost coded = { coded_lookups };
 
-    ghost view = { λ l. seen lookup_cmp (λ k. k) (λ v. v) l.map };
+    ghost view = { λ l. seen hash_and_number_cmp (λ k. k) (λ v. v) l.map };
 
-    ghost invariant = { λ l. HaveShortLengths (seen lookup_cmp (λ k. k) (λ v. v) l.map) };
+    ghost invariant = { λ l. HaveShortLengths (seen hash_and_number_cmp (λ k. k) (λ v. v) l.map) };
 }
 
 impl Lookups {
@@ -62,32 +63,35 @@ impl Lookups {
         ensures value { result ≡ fin.get self.now (hash.now, length) }
         ensures short { OnSome result (length < 2 ^ 32) }
     {
-        let _map = &self.map;
+        let map = &self.map;
         if length > u32::MAX as usize {
             return None;
         }
-        self.get(hash, length as u32)
+        map.get(&(*hash, length as u32)).copied()
     }
 
     /// Keeps a history in place of the one that was there.
     ///
     /// # Errors
-    /// `AllocError` for want of memory; the histories are then as before.
+    /// `AllocError` for want of memory, where there was none; the histories are then as before.
     pub fn put(&mut self, hash: &[u8; 32], length: u32, history: History) -> Result<(), AllocError>
         ensures ok { OnOk result (self.new ≡ fin.insert self.old (hash.now, length) history) }
         ensures err { OnErr result (self.new ≡ self.old) }
+        ensures absent { OnErr result (fin.get self.old (hash.now, length) ≡ None) }
     {
         self.map.insert((*hash, length), history)?;
         Ok(())
     }
 
-    /// Puts a history in place of the one that is there, which takes no memory.
-    pub fn replace(&mut self, hash: &[u8; 32], length: u32, history: History)
+    /// Puts a history in place of the one that is there, which it gives back. This takes no memory.
+    pub fn replace(&mut self, hash: &[u8; 32], length: u32, history: History) -> History
         requires { IsSome (fin.get self.old (hash.now, length)) }
-        ensures { self.new ≡ fin.insert self.old (hash.now, length) history }
+        ensures value { Some result ≡ fin.get self.old (hash.now, length) }
+        ensures after { self.new ≡ fin.insert self.old (hash.now, length) history }
     {
         match self.map.insert((*hash, length), history) {
-            Ok(_) => {}
+            Ok(Some(old)) => old,
+            Ok(None) => unreachable!(),
             Err(_) => unreachable!(),
         }
     }
@@ -97,7 +101,6 @@ impl Lookups {
         ensures value { result ≡ fin.get self.old (hash.now, length) }
         ensures after { self.new ≡ fin.remove self.old (hash.now, length) }
     {
-        let _count = self.map.len();
         self.map.remove(&(*hash, length))
     }
 }

@@ -1,9 +1,10 @@
 // Preimages by digest.
-ghost use Rattle.std.specs.Prelude.{◌≡◌, ◌^◌, ◌<◌, OnOk, OnErr, IfOk, IfSome, option_map, length};
+ghost use Rattle.std.specs.Prelude.{◌≡◌, ◌^◌, ◌<◌, OnOk, OnErr, IfOk, None, IfSome, option_map, length};
 ghost use Rattle.std.specs.FinMap as fin;
 ghost use Rattle.std.specs.Iterator.{at_most};
 ghost use Rattle.std.specs.Map.Iter.{TakesFirst, deref_pair};
 ghost use Rattle.blake2b_core.specs.Blake2b.{digest};
+ghost use Rattle.jam_accounts.specs.Accounts.{StandUnderDigests};
 
 use std::alloc::{AllocError, Global};
 use std::collections::BTreeMap;
@@ -17,13 +18,13 @@ pub struct Preimages {
 }
 
 impl Model for Preimages {
-    ghost use Rattle.jam_accounts.specs.Accounts.{Contents, StandUnderDigests, bytes_cmp};
-    ghost use Rattle.jam_accounts.specs.Codes.{values_code};
+    ghost use Rattle.jam_accounts.specs.Accounts.{Preimages, StandUnderDigests, bytes_cmp};
+    ghost use Rattle.jam_accounts.specs.Coded.{coded_preimages};
     ghost use Rattle.jam_accounts.specs.Seen.{seen};
 
-    ghost Value = { Contents };
+    ghost Value = { Preimages };
 
-    ghost coded = { values_code };
+    ghost coded = { coded_preimages };
 
     ghost view = { λ p. seen bytes_cmp (λ k. k) (λ v. v.items) p.map };
 
@@ -62,10 +63,12 @@ impl Preimages {
     /// Keeps bytes under their digest.
     ///
     /// # Errors
-    /// `AllocError` for want of memory; the preimages are then as before.
+    /// `AllocError` for want of memory, where they were not there; the preimages are then as
+    /// before.
     pub fn put(&mut self, bytes: Vec<u8>) -> Result<(), AllocError>
         ensures ok { OnOk result (self.new ≡ fin.insert self.old (digest bytes.items) bytes.items) }
         ensures err { OnErr result (self.new ≡ self.old) }
+        ensures absent { OnErr result (fin.get self.old (digest bytes.items) ≡ None) }
     {
         let hash = blake2b_core::digest(&bytes);
         self.put_under(hash, bytes)
@@ -74,11 +77,13 @@ impl Preimages {
     /// Keeps bytes whose digest is known.
     ///
     /// # Errors
-    /// `AllocError` for want of memory; the preimages are then as before.
+    /// `AllocError` for want of memory, where they were not there; the preimages are then as
+    /// before.
     pub fn put_under(&mut self, hash: [u8; 32], bytes: Vec<u8>) -> Result<(), AllocError>
         requires { hash ≡ digest bytes.items }
         ensures ok { OnOk result (self.new ≡ fin.insert self.old hash bytes.items) }
         ensures err { OnErr result (self.new ≡ self.old) }
+        ensures absent { OnErr result (fin.get self.old hash ≡ None) }
     {
         self.map.insert(hash, bytes)?;
         Ok(())
@@ -89,7 +94,6 @@ impl Preimages {
         ensures value { option_map (λ bytes. bytes.items) result ≡ fin.get self.old hash.now }
         ensures after { self.new ≡ fin.remove self.old hash.now }
     {
-        let _count = self.map.len();
         self.map.remove(hash)
     }
 }
@@ -112,7 +116,8 @@ impl<'a> Model for PreimagesEntries<'a> {
 impl Preimages {
     /// The preimages in the order of their digests.
     pub fn entries(&self) -> PreimagesEntries<'_>
-        ensures { result ≡ fin.entries self.now }
+        ensures entries { result ≡ fin.entries self.now }
+        ensures stand { StandUnderDigests self.now }
     {
         PreimagesEntries {
             rest: self.map.iter(),

@@ -1,5 +1,5 @@
 // What a service keeps: values by key.
-ghost use Rattle.std.specs.Prelude.{◌≡◌, ◌^◌, ◌<◌, OnOk, OnErr, IfOk, option_map, length};
+ghost use Rattle.std.specs.Prelude.{◌≡◌, ◌^◌, ◌<◌, OnOk, OnErr, IfOk, None, option_map, length};
 ghost use Rattle.std.specs.FinMap as fin;
 ghost use Rattle.std.specs.Iterator.{at_most};
 ghost use Rattle.std.specs.Map.Iter.{TakesFirst, deref_pair};
@@ -18,13 +18,13 @@ pub struct Storage {
 }
 
 impl Model for Storage {
-    ghost use Rattle.jam_accounts.specs.Accounts.{Values, bytes_cmp};
-    ghost use Rattle.jam_accounts.specs.Codes.{values_code};
+    ghost use Rattle.jam_accounts.specs.Accounts.{Storage, bytes_cmp};
+    ghost use Rattle.jam_accounts.specs.Coded.{coded_storage};
     ghost use Rattle.jam_accounts.specs.Seen.{seen};
 
-    ghost Value = { Values };
+    ghost Value = { Storage };
 
-    ghost coded = { values_code };
+    ghost coded = { coded_storage };
 
     ghost view = { λ s. seen bytes_cmp (λ k. k.items) (λ v. v.items) s.map };
 }
@@ -60,10 +60,11 @@ impl Storage {
     /// Keeps a value under a key, in place of the one that was there.
     ///
     /// # Errors
-    /// `AllocError` for want of memory; the values are then as before.
+    /// `AllocError` for want of memory, where there was none; the values are then as before.
     pub fn put(&mut self, key: Vec<u8>, value: Vec<u8>) -> Result<(), AllocError>
         ensures ok { OnOk result (self.new ≡ fin.insert self.old key.items value.items) }
         ensures err { OnErr result (self.new ≡ self.old) }
+        ensures absent { OnErr result (fin.get self.old key.items ≡ None) }
     {
         self.map.insert(key, value)?;
         Ok(())
@@ -74,7 +75,6 @@ impl Storage {
         ensures value { option_map (λ value. value.items) result ≡ fin.get self.old key.now }
         ensures after { self.new ≡ fin.remove self.old key.now }
     {
-        let _count = self.map.len();
         self.map.remove(key)
     }
 }

@@ -13,7 +13,7 @@ pub const EXPUNGE_PERIOD: u32 = 19_200;
 /// - `x`: it is available since x.
 /// - `x, y`: it was available from x on, and no longer at y.
 /// - `x, y, z`: it was so, and is available again since z.
-#[derive(Clone, Copy, Debug, PartialEq, Eq)]
+#[derive(Clone, Copy, PartialEq, Eq)]
 pub struct History {
     count: u8,
     slots: [u32; 3],
@@ -35,11 +35,11 @@ impl Model for History {
 }
 
 /// The history at hand does not allow what was asked.
-#[derive(Clone, Copy, Debug, PartialEq, Eq)]
+#[derive(Clone, Copy, PartialEq, Eq)]
 pub struct Huh;
 
 /// What is left where a preimage is asked for no longer.
-#[derive(Clone, Copy, Debug, PartialEq, Eq)]
+#[derive(Clone, Copy, PartialEq, Eq)]
 pub enum Forgot {
     /// Nothing: the preimage may go.
     Dropped,

@@ -1,19 +1,17 @@
 -- Maps that are made of ascending entries, and written entry by entry.
-use Rattle.std.proofs.Common.{◌≡◌, ℕ, suc, ◌<◌, ◌^◌, List, [], ◌∷◌, ◌++◌, length, map, ap, sym, ◌∙◌, refl, subst, arith, append-nil, append_assoc, Ordering, Option, Some, None, option_map, Bool, true, false, cond, IfSome, Bor, option_copied, Result, Ok, Err, OnOk, nat_le}
+use Rattle.std.proofs.Common.{◌≡◌, ℕ, suc, ◌<◌, ◌^◌, List, [], ◌∷◌, ◌++◌, length, map, ap, sym, ◌∙◌, refl, subst, arith, append-nil, append_assoc, Ordering, Option, Some, None, option_map, true, cond, Result, Ok, Err, OnOk}
 use Rattle.std.specs.Prelude.{T}
 use Rattle.jam_codec.specs.Spelling.{natural}
-use Rattle.state_file.specs.StateFile.{most, under_digest}
-use Rattle.std.proofs.lemmas.Bool.{le-leb}
+use Rattle.state_file.specs.StateFile.{under_digest}
 use Rattle.std.specs.declared.cmp.Ordering.TheVariants.{Less, Equal, Greater}
-use Rattle.std.specs.Ordering.{nat_cmp, is_lt, is_le, is_eq, eq_by_cmp, ordering_then, ordering_reverse}
+use Rattle.std.specs.Ordering.{nat_cmp, is_lt, is_le, is_eq, ordering_then, ordering_reverse}
 use Rattle.std.specs.Cmp.{IsTotalOrder, tied_itself}
 use Rattle.std.specs.Cmp.Lexicographic.{slice_cmp, nat_list_cmp_total}
 use Rattle.blake2b_core.specs.Blake2b.{digest}
-use Rattle.jam_accounts.specs.Accounts.{Contents, StandUnderDigests, bytes_cmp}
-use Rattle.jam_accounts.proofs.Maps.{bytes_same, equal}
+use Rattle.jam_accounts.specs.Accounts.{Preimages, StandUnderDigests, bytes_cmp}
 use Rattle.std.specs.FinMap as fin
 use Rattle.std.specs.FinMap.Entries.{is_sorted, below_all, find}
-use Rattle.jam_codec.specs.Format.{items_spelled, items_fit}
+use Rattle.jam_codec.specs.Format.{any, items_spelled, items_fit}
 use Rattle.jam_codec.specs.Lists.{follows, blob_by_after, hash_and_number_cmp, is_hash_from}
 use Rattle.jam_fields.specs.Rows.{last_of}
 use Rattle.jam_fields.proofs.Sorted.{insert_end, from_sorted_is, follows_last, below_at, first_of, second_of, less_of}
@@ -39,6 +37,19 @@ module _ {K X : Type 0} {R : K → K → Ordering} (total : IsTotalOrder R) wher
   all_put m left all sorted is none =
       from_sorted_is R total m all (sym (append-nil (fin.entries m)) ∙ ap (λ (es : List (K × X)). fin.entries m ++ es) (sym (nothing left none)) ∙ is) sorted
 
+  -- an entry is found at its key
+  found_among : (front rest : List (K × X)) (k : K) (v : X) → T (is_sorted R (front ++ (k, v) ∷ rest)) → find R k (front ++ (k, v) ∷ rest) ≡ Some v
+  found_among [] rest k v h = ap (λ o. cond (is_eq o) (Some v) (find R k rest)) (tied_itself total k)
+  found_among (e ∷ front) rest k v h =
+      let less : R e.0 k ≡ Less = below_at R total e.0 front rest k v (first_of (below_all R e.0 (front ++ (k, v) ∷ rest)) (is_sorted R (front ++ (k, v) ∷ rest)) h) in
+      let greater : R k e.0 ≡ Greater = total.antisymm k e.0 ∙ ap ordering_reverse less in
+      ap (λ o. cond (is_eq o) (Some e.1) (find R k (front ++ (k, v) ∷ rest))) greater
+      ∙ found_among front rest k v (second_of (below_all R e.0 (front ++ (k, v) ∷ rest)) (is_sorted R (front ++ (k, v) ∷ rest)) h)
+
+  pub found_at : (m : fin.FinMap R X) (front rest : List (K × X)) (k : K) (v : X) → fin.entries m ≡ front ++ (k, v) ∷ rest → fin.get m k ≡ Some v
+  found_at m front rest k v parts =
+      fin.get-entries m k ∙ ap (find R k) parts ∙ found_among front rest k v (subst (λ (es : List (K × X)). T (is_sorted R es)) parts (fin.entries_sorted m))
+
   -- an entry that is written stands above the ones before it
   pub follows_before : (m : fin.FinMap R X) (front left : List (K × X)) (k : K) (v : X) → fin.entries m ≡ front ++ (k, v) ∷ left → follows R (option_map (λ (e : K × X). e.0) (last_of front)) k ≡ true
   follows_before m front left k v parts = follows_last R total front left k v (subst (λ (es : List (K × X)). T (is_sorted R es)) parts (fin.entries_sorted m))
@@ -52,11 +63,15 @@ pub on_ok-both : {A E : Type 0} (r : Result A E) → {P Q S : Type 0} → (P →
 on_ok-both (Ok x) f h i = f h i
 on_ok-both (Err e) f h i = tt
 
+-- bytes that are added behind others
+pub behind : (old a b : List ℕ) {mid new : List ℕ} → mid ≡ old ++ a → new ≡ mid ++ b → new ≡ old ++ (a ++ b)
+behind old a b first second = second ∙ ap (λ (bytes : List ℕ). bytes ++ b) first ∙ append_assoc old a b
+
 pub counted : (old : List ℕ) (n m : ℕ) (more : List ℕ) → n ≡ m → (old ++ natural n) ++ more ≡ old ++ (natural m ++ more)
 counted old n m more same = append_assoc old (natural n) more ∙ ap (λ (k : ℕ). old ++ (natural k ++ more)) same
 
-pub most_fits : (n : ℕ) → n < 2 ^ 63 → (n < 2 ^ 64) × (nat_le n most ≡ true)
-most_fits n h = (omega arith, le-leb n most (omega arith))
+pub count_fits : (n : ℕ) → n < 2 ^ 63 → (n < 2 ^ 64) × (any n ≡ true)
+count_fits n h = (omega arith, refl)
 
 pub length-under : (xs : List (List ℕ)) → length (map under_digest xs) ≡ length xs
 length-under [] = refl
@@ -85,62 +100,32 @@ values-append : (es : List (List ℕ × List ℕ)) (e : List ℕ × List ℕ) �
 values-append [] e = refl
 values-append (x ∷ es) e = ap (λ (ys : List (List ℕ)). x.1 ∷ ys) (values-append es e)
 
--- the entry is found at its key
-found_at : (front rest : List (List ℕ × List ℕ)) (k v : List ℕ) → T (is_sorted bytes_cmp (front ++ (k, v) ∷ rest)) → find bytes_cmp k (front ++ (k, v) ∷ rest) ≡ Some v
-found_at [] rest k v h = ap (λ o. cond (is_eq o) (Some v) (find bytes_cmp k rest)) (tied_itself nat_list_cmp_total k)
-found_at (e ∷ front) rest k v h =
-    let less : bytes_cmp e.0 k ≡ Less = below_at bytes_cmp nat_list_cmp_total e.0 front rest k v (first_of (below_all bytes_cmp e.0 (front ++ (k, v) ∷ rest)) (is_sorted bytes_cmp (front ++ (k, v) ∷ rest)) h) in
-    let greater : bytes_cmp k e.0 ≡ Greater = nat_list_cmp_total.antisymm k e.0 ∙ ap ordering_reverse less in
-    ap (λ o. cond (is_eq o) (Some e.1) (find bytes_cmp k (front ++ (k, v) ∷ rest))) greater
-    ∙ found_at front rest k v (second_of (below_all bytes_cmp e.0 (front ++ (k, v) ∷ rest)) (is_sorted bytes_cmp (front ++ (k, v) ∷ rest)) h)
-
-looked_up : (found : Option (List ℕ)) (hash v : List ℕ) → IfSome found (λ bytes. hash ≡ digest bytes) → found ≡ Some v → hash ≡ digest v
-looked_up None hash v h e = absurd (cc e)
-looked_up (Some w) hash v h e = let same : w ≡ v = cc in h ∙ ap digest same
-
 -- preimages that were written, and those that are left
-pub record Written (m : Contents) (left : List (List ℕ × List ℕ)) (old new : List ℕ) : Type 0 where
+pub record Written (m : Preimages) (left : List (List ℕ × List ℕ)) (old new : List ℕ) : Type 0 where
   pub front : List (List ℕ × List ℕ)
   pub parts : fin.entries m ≡ front ++ left
   pub stand : Stand front
   pub bytes : new ≡ old ++ items_spelled (blob_by_after digest) None (map (λ (p : List ℕ × List ℕ). p.1) front)
 
-pub none_written : (m : Contents) (left : List (List ℕ × List ℕ)) (old : List ℕ) → left ≡ fin.entries m → Written m left old old
+pub none_written : (m : Preimages) (left : List (List ℕ × List ℕ)) (old : List ℕ) → left ≡ fin.entries m → Written m left old old
 unfolding items_spelled
 none_written m left old is = record { front = []; parts = sym is; stand = tt; bytes = sym (append-nil old) }
 
-pub one_written : (m : Contents) (left rest : List (List ℕ × List ℕ)) (k v old mid new : List ℕ) → Written m left old mid → left ≡ (k, v) ∷ rest → length v < 2 ^ 64 → (found : Option (List ℕ)) → found ≡ fin.get m k → IfSome found (λ bytes. k ≡ digest bytes) → new ≡ (mid ++ natural (length v)) ++ v → Written m rest old new
-one_written m left rest k v old mid new w next short found get under is =
+pub one_written : (m : Preimages) (left rest : List (List ℕ × List ℕ)) (k v old mid new : List ℕ) → Written m left old mid → left ≡ (k, v) ∷ rest → length v < 2 ^ 64 → StandUnderDigests m → new ≡ (mid ++ natural (length v)) ++ v → Written m rest old new
+one_written m left rest k v old mid new w next short stand is =
     let parts : fin.entries m ≡ w.front ++ (k, v) ∷ rest = w.parts ∙ ap (λ (es : List (List ℕ × List ℕ)). w.front ++ es) next in
-    let at : fin.get m k ≡ Some v = fin.get-entries m k ∙ ap (find bytes_cmp k) parts ∙ found_at w.front rest k v (subst (λ es. T (is_sorted bytes_cmp es)) parts (fin.entries_sorted m)) in
     let values : List (List ℕ) = map (λ (p : List ℕ × List ℕ). p.1) w.front in
     let g = blob_by_after digest in
     record {
       front = w.front ++ (k, v) ∷ [];
       parts = parts ∙ sym (append_assoc w.front ((k, v) ∷ []) rest);
-      stand = stand-append w.front (k, v) w.stand (looked_up found k v under (get ∙ at)) short;
+      stand = stand-append w.front (k, v) w.stand (stand k v (found_at nat_list_cmp_total m w.front rest k v parts)) short;
       bytes = is ∙ append_assoc mid (natural (length v)) v ∙ ap (λ (bytes : List ℕ). bytes ++ (natural (length v) ++ v)) w.bytes
           ∙ append_assoc old (items_spelled g None values) (natural (length v) ++ v)
           ∙ ap (λ (bytes : List ℕ). old ++ bytes) (sym (items_spelled-append g values v) ∙ ap (items_spelled g None) (sym (values-append w.front (k, v))));
     }
 
-either_stands : (q : List ℕ) (x : List ℕ × List ℕ) (es : List (List ℕ × List ℕ)) (v : List ℕ) → x.0 ≡ digest x.1 → (find bytes_cmp q es ≡ Some v → q ≡ digest v) → (b : Bool) → eq_by_cmp bytes_cmp q x.0 ≡ b → find bytes_cmp q (x ∷ es) ≡ Some v → q ≡ digest v
-either_stands q x es v first later true at e =
-    let here : Some x.1 ≡ Some v = sym (ap (λ b. cond b (Some x.1) (find bytes_cmp q es)) at) ∙ e in
-    let same : x.1 ≡ v = cc in
-    bytes_same q x.0 (equal (bytes_cmp q x.0) at) ∙ first ∙ ap digest same
-either_stands q x es v first later false at e = later (sym (ap (λ b. cond b (Some x.1) (find bytes_cmp q es)) at) ∙ e)
-
-found_stands : (q : List ℕ) (es : List (List ℕ × List ℕ)) (v : List ℕ) → Stand es → find bytes_cmp q es ≡ Some v → q ≡ digest v
-found_stands q [] v h e = absurd (cc e)
-found_stands q (x ∷ es) v h e = either_stands q x es v h.0.0 (λ later. found_stands q es v h.1 later) (eq_by_cmp bytes_cmp q x.0) refl e
-
-pub all_stand : (m : Contents) (left : List (List ℕ × List ℕ)) (old new : List ℕ) → Written m left old new → left ≡ [] → StandUnderDigests m
-all_stand m left old new w none q v e =
-    let all : w.front ≡ fin.entries m = sym (append-nil w.front) ∙ ap (λ (es : List (List ℕ × List ℕ)). w.front ++ es) (sym none) ∙ sym w.parts in
-    found_stands q (fin.entries m) v (subst Stand all w.stand) (sym (fin.get-entries m q) ∙ e)
-
-pub all_written : (m : Contents) (left : List (List ℕ × List ℕ)) (old new : List ℕ) → Written m left old new → left ≡ [] → new ≡ old ++ items_spelled (blob_by_after digest) None (fin.values m)
+pub all_written : (m : Preimages) (left : List (List ℕ × List ℕ)) (old new : List ℕ) → Written m left old new → left ≡ [] → new ≡ old ++ items_spelled (blob_by_after digest) None (fin.values m)
 all_written m left old new w none =
     let all : w.front ≡ fin.entries m = sym (append-nil w.front) ∙ ap (λ (es : List (List ℕ × List ℕ)). w.front ++ es) (sym none) ∙ sym w.parts in
     w.bytes ∙ ap (λ es. old ++ items_spelled (blob_by_after digest) None (map (λ (p : List ℕ × List ℕ). p.1) es)) all
@@ -159,7 +144,7 @@ fit_values [] sorted stand = tt
 fit_values (e ∷ es) sorted stand =
     (((stand.0.1, refl), (refl, refl)), fit_after e es stand.0.0 (first_of (below_all bytes_cmp e.0 es) (is_sorted bytes_cmp es) sorted) (second_of (below_all bytes_cmp e.0 es) (is_sorted bytes_cmp es) sorted) stand.1)
 
-pub all_fit : (m : Contents) (left : List (List ℕ × List ℕ)) (old new : List ℕ) → Written m left old new → left ≡ [] → items_fit (blob_by_after digest) (length (fin.values m)) None (fin.values m)
+pub all_fit : (m : Preimages) (left : List (List ℕ × List ℕ)) (old new : List ℕ) → Written m left old new → left ≡ [] → items_fit (blob_by_after digest) (length (fin.values m)) None (fin.values m)
 all_fit m left old new w none =
     let all : w.front ≡ fin.entries m = sym (append-nil w.front) ∙ ap (λ (es : List (List ℕ × List ℕ)). w.front ++ es) (sym none) ∙ sym w.parts in
     fit_values (fin.entries m) (fin.entries_sorted m) (subst Stand all w.stand)
@@ -167,7 +152,3 @@ all_fit m left old new w none =
 pub length-values : (es : List (List ℕ × List ℕ)) → length (map (λ (p : List ℕ × List ℕ). p.1) es) ≡ length es
 length-values [] = refl
 length-values (e ∷ es) = ap suc (length-values es)
-
-pub under : (found : Option (Bor (List ℕ))) (hash : List ℕ) → IfSome found (λ bytes. hash ≡ digest bytes.now) → IfSome (option_copied found) (λ bytes. hash ≡ digest bytes)
-under None hash h = tt
-under (Some b) hash h = h

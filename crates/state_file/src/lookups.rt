@@ -1,15 +1,15 @@
 // Histories of a service, by hash and then by length.
-ghost use Rattle.std.specs.Prelude.{◌≡◌, ◌++◌, ◌<◌, ◌^◌, OnOk, IfOk, T, None, List, ℕ, Option, length};
+ghost use Rattle.std.specs.Prelude.{◌≡◌, ◌++◌, ◌<◌, ◌^◌, OnOk, OnErr, IfOk, T, None, List, ℕ, Option, length};
 ghost use Rattle.std.specs.Option.{option_copied};
 ghost use Rattle.std.specs.FinMap as fin;
 ghost use Rattle.std.specs.FinMap.Entries.{is_sorted};
 ghost use Rattle.jam_codec.specs.Format.{items_spelled, items_fit};
 ghost use Rattle.jam_codec.specs.Lists.{hash_and_number_cmp, hash_and_number_after, entry_of, follows, is_hash_from};
-ghost use Rattle.jam_codec.proofs.Lists.{hash_and_number_laws};
-ghost use Rattle.jam_fields.specs.Given.{Gives};
-ghost use Rattle.jam_accounts.specs.Accounts.{lookup_cmp};
+ghost use Rattle.jam_codec.proofs.FormatLaws.{hash_and_number_laws};
+ghost use Rattle.jam_codec.specs.Reading.{Reads};
+ghost use Rattle.jam_codec.specs.Refusal.{place_of};
 ghost use Rattle.jam_accounts.specs.Footprint.{lookups_octets};
-ghost use Rattle.state_file.specs.StateFile.{histories_format, history_format};
+ghost use Rattle.state_file.specs.StateFile.{lookups_format, history_format};
 ghost use Rattle.state_file.specs.StateLaws.{history_laws};
 
 use jam_accounts::Lookups;
@@ -74,23 +74,20 @@ impl Row for LookupKey {
         cursor: &mut Cursor<'_>,
         last: Option<&LookupKey>,
     ) -> Result<LookupKey, FileRefusal> {
-        let place = cursor.place();
+        let mut ahead = cursor.ahead();
+        let place = ahead.place();
         let mut hash = [0; 32];
-        hash.copy_from_slice(cursor.bytes(32)?);
+        hash.copy_from_slice(ahead.bytes(32)?);
         if !is_hash_above(last, &hash) {
             return Err(FileRefusal::Malformed { place });
         }
-        let place = cursor.place();
-        let length = cursor.fixed(4)? as u32;
+        let place = ahead.place();
+        let length = ahead.fixed(4)? as u32;
         if !is_above(last, &hash, length) {
             return Err(FileRefusal::Malformed { place });
         }
+        *cursor = ahead;
         Ok(LookupKey { hash, length })
-    }
-
-    fn write_row(&self, out: &mut Vec<u8>) -> Result<(), AllocError> {
-        out.extend_from_slice(&self.hash)?;
-        push_fixed(out, 4, u64::from(self.length))
     }
 
     ghost is_format_after = { hash_and_number_laws };
@@ -114,24 +111,17 @@ impl Field for Slots {
     ghost format = { history_format };
 
     fn read(alloc: Global, cursor: &mut Cursor<'_>) -> Result<Slots, FileRefusal> {
-        let place = cursor.place();
         let slots = read_list(alloc, cursor, 3)?;
-        match History::of(slots.as_slice()) {
-            Some(history) => Ok(Slots { history }),
-            None => Err(FileRefusal::Malformed { place }),
-        }
-    }
-
-    fn write(&self, out: &mut Vec<u8>) -> Result<(), AllocError> {
-        write_slots(self.history, out)
+        let history = History::of(slots.as_slice()).unwrap();
+        Ok(Slots { history })
     }
 
     ghost is_format = { history_laws };
 }
 
 fn lookups_of(alloc: Global, entries: Vec<(LookupKey, Slots)>) -> Result<Lookups, AllocError>
-    requires { T (is_sorted lookup_cmp entries.items) }
-    ensures made { IfOk result (λ lookups. lookups ≡ fin.from_sorted {R = lookup_cmp} entries.items) }
+    requires { T (is_sorted hash_and_number_cmp entries.items) }
+    ensures made { IfOk result (λ lookups. lookups ≡ fin.from_sorted {R = hash_and_number_cmp} entries.items) }
     ensures small { IfOk result (λ lookups. lookups_octets lookups < 2 ^ 99) }
 {
     let mut lookups = Lookups::new(alloc);
@@ -146,10 +136,10 @@ fn lookups_of(alloc: Global, entries: Vec<(LookupKey, Slots)>) -> Result<Lookups
 /// # Errors
 /// `Malformed` at the first field that does not spell; `NoMemory`.
 pub fn read_lookups(alloc: Global, cursor: &mut Cursor<'_>) -> Result<Lookups, FileRefusal>
-    ensures exact { Gives (λ x. x) result cursor.new (histories_format.read cursor.old) }
+    ensures exact { Reads place_of (λ x. x) result cursor.new (lookups_format.read cursor.old) }
     ensures small { IfOk result (λ lookups. lookups_octets lookups < 2 ^ 99) }
 {
-    let entries = read_rows(alloc, cursor, u64::MAX)?;
+    let entries = read_rows(alloc, cursor)?;
     Ok(lookups_of(alloc, entries)?)
 }
 
@@ -176,7 +166,7 @@ fn write_history(
     write_slots(history, out)
 }
 
-fn write_histories(lookups: &Lookups, out: &mut Vec<u8>) -> Result<(), AllocError>
+fn write_entries(lookups: &Lookups, out: &mut Vec<u8>) -> Result<(), AllocError>
     ensures ok { OnOk result (out.new.items ≡ out.old.items ++ items_spelled (entry_of hash_and_number_after history_format) None (fin.entries lookups.now)) }
     ensures fits { OnOk result (items_fit (entry_of hash_and_number_after history_format) (length (fin.entries lookups.now)) None (fin.entries lookups.now)) }
 {
@@ -191,9 +181,9 @@ fn write_histories(lookups: &Lookups, out: &mut Vec<u8>) -> Result<(), AllocErro
 /// # Errors
 /// Want of memory; a part may have been added then.
 pub fn write_lookups(lookups: &Lookups, out: &mut Vec<u8>) -> Result<(), AllocError>
-    ensures ok { OnOk result (out.new.items ≡ out.old.items ++ histories_format.spell lookups.now) }
-    ensures fits { OnOk result (histories_format.Fits lookups.now) }
+    ensures ok { OnOk result (out.new.items ≡ out.old.items ++ lookups_format.spell lookups.now) }
+    ensures fits { OnOk result (lookups_format.Fits lookups.now) }
 {
     push_natural(out, lookups.len() as u64)?;
-    write_histories(lookups, out)
+    write_entries(lookups, out)
 }

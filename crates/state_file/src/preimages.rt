@@ -1,5 +1,5 @@
 // Preimages of a service, in the order of their digests.
-ghost use Rattle.std.specs.Prelude.{◌≡◌, ◌++◌, ◌<◌, ◌^◌, OnOk, IfOk, T, None, List, ℕ, length, map};
+ghost use Rattle.std.specs.Prelude.{◌≡◌, ◌++◌, ◌<◌, ◌^◌, OnOk, OnErr, IfOk, T, None, List, ℕ, length, map};
 ghost use Rattle.std.specs.Option.{option_copied, option_map};
 ghost use Rattle.std.specs.Ordering.{nat_cmp};
 ghost use Rattle.std.specs.Cmp.Lexicographic.{slice_cmp};
@@ -8,11 +8,12 @@ ghost use Rattle.std.specs.FinMap.Entries.{is_sorted};
 ghost use Rattle.blake2b_core.specs.Blake2b.{digest};
 ghost use Rattle.jam_codec.specs.Format.{items_spelled, items_fit};
 ghost use Rattle.jam_codec.specs.Lists.{blob_by_after, follows};
-ghost use Rattle.jam_codec.proofs.Lists.{blob_by_after_laws};
+ghost use Rattle.jam_codec.proofs.FormatLaws.{blob_by_after_laws};
 ghost use Rattle.jam_codec.specs.Spelling.{natural};
-ghost use Rattle.jam_fields.specs.Given.{Gives};
+ghost use Rattle.jam_codec.specs.Reading.{Reads};
+ghost use Rattle.jam_codec.specs.Refusal.{place_of};
 ghost use Rattle.jam_accounts.specs.Accounts.{bytes_cmp, StandUnderDigests};
-ghost use Rattle.state_file.specs.StateFile.{contents_format, preimages_format, under_digest};
+ghost use Rattle.state_file.specs.StateFile.{preimages_format, under_digest};
 
 use jam_accounts::Preimages;
 use jam_codec::{Cursor, FileRefusal, push_blob, push_natural};
@@ -78,18 +79,16 @@ impl Row for Preimage {
         cursor: &mut Cursor<'_>,
         last: Option<&Preimage>,
     ) -> Result<Preimage, FileRefusal> {
-        let length = cursor.natural()?;
-        let place = cursor.place();
-        let bytes = cursor.bytes(length)?;
+        let mut ahead = cursor.ahead();
+        let length = ahead.natural()?;
+        let place = ahead.place();
+        let bytes = ahead.bytes(length)?;
         let preimage = Preimage::new(Vec::from_slice(alloc, bytes)?);
         if !is_above(last, preimage.hash()) {
             return Err(FileRefusal::Malformed { place });
         }
+        *cursor = ahead;
         Ok(preimage)
-    }
-
-    fn write_row(&self, out: &mut Vec<u8>) -> Result<(), AllocError> {
-        push_blob(out, self.bytes.as_slice())
     }
 
     ghost is_format_after = { blob_by_after_laws digest };
@@ -112,9 +111,9 @@ fn preimages_of(alloc: Global, rows: Vec<Preimage>) -> Result<Preimages, AllocEr
 /// # Errors
 /// `Malformed` at the first field that does not spell; `NoMemory`.
 pub fn read_preimages(alloc: Global, cursor: &mut Cursor<'_>) -> Result<Preimages, FileRefusal>
-    ensures exact { Gives (λ x. x) result cursor.new (contents_format.read cursor.old) }
+    ensures exact { Reads place_of (λ x. x) result cursor.new (preimages_format.read cursor.old) }
 {
-    let rows = read_rows(alloc, cursor, u64::MAX)?;
+    let rows = read_rows(alloc, cursor)?;
     Ok(preimages_of(alloc, rows)?)
 }
 
@@ -125,14 +124,12 @@ fn write_bytes(bytes: &[u8], out: &mut Vec<u8>) -> Result<(), AllocError>
     push_blob(out, bytes)
 }
 
-// The look-up tells that the hash is the digest.
-fn write_contents(preimages: &Preimages, out: &mut Vec<u8>) -> Result<(), AllocError>
+fn write_blobs(preimages: &Preimages, out: &mut Vec<u8>) -> Result<(), AllocError>
     ensures ok { OnOk result (out.new.items ≡ out.old.items ++ items_spelled (blob_by_after digest) None (fin.values preimages.now)) }
     ensures fits { OnOk result (items_fit (blob_by_after digest) (length (fin.values preimages.now)) None (fin.values preimages.now)) }
     ensures stand { OnOk result (StandUnderDigests preimages.now) }
 {
-    for (hash, bytes) in preimages.entries() {
-        let _found = preimages.get(hash);
+    for (_hash, bytes) in preimages.entries() {
         write_bytes(bytes, out)?;
     }
     Ok(())
@@ -143,9 +140,9 @@ fn write_contents(preimages: &Preimages, out: &mut Vec<u8>) -> Result<(), AllocE
 /// # Errors
 /// Want of memory; a part may have been added then.
 pub fn write_preimages(preimages: &Preimages, out: &mut Vec<u8>) -> Result<(), AllocError>
-    ensures ok { OnOk result (out.new.items ≡ out.old.items ++ contents_format.spell preimages.now) }
-    ensures fits { OnOk result (contents_format.Fits preimages.now) }
+    ensures ok { OnOk result (out.new.items ≡ out.old.items ++ preimages_format.spell preimages.now) }
+    ensures fits { OnOk result (preimages_format.Fits preimages.now) }
 {
     push_natural(out, preimages.len() as u64)?;
-    write_contents(preimages, out)
+    write_blobs(preimages, out)
 }

@@ -5,10 +5,11 @@ ghost use Rattle.std.specs.FinMap.Entries.{is_sorted};
 ghost use Rattle.jam_codec.specs.Format.{any, items_spelled, items_fit};
 ghost use Rattle.jam_codec.specs.Lists.{blob_where, blob_after, entry_of};
 ghost use Rattle.jam_codec.specs.Spelling.{natural};
-ghost use Rattle.jam_fields.specs.Given.{Gives};
+ghost use Rattle.jam_codec.specs.Reading.{Reads};
+ghost use Rattle.jam_codec.specs.Refusal.{place_of};
 ghost use Rattle.jam_accounts.specs.Accounts.{bytes_cmp};
 ghost use Rattle.jam_accounts.specs.Footprint.{storage_octets};
-ghost use Rattle.state_file.specs.StateFile.{values_format};
+ghost use Rattle.state_file.specs.StateFile.{storage_format};
 
 use jam_accounts::Storage;
 use jam_codec::{Cursor, FileRefusal, push_blob, push_natural};
@@ -31,11 +32,11 @@ fn storage_of(alloc: Global, entries: Vec<(Blob, Blob)>) -> Result<Storage, Allo
 /// # Errors
 /// `Malformed` at the first field that does not spell; `NoMemory`.
 pub fn read_storage(alloc: Global, cursor: &mut Cursor<'_>) -> Result<Storage, FileRefusal>
-    ensures exact { Gives (λ x. x) result cursor.new (values_format.read cursor.old) }
+    ensures exact { Reads place_of (λ x. x) result cursor.new (storage_format.read cursor.old) }
     ensures small { IfOk result (λ storage. storage_octets storage < 2 ^ 99) }
 {
     let _place = cursor.place();
-    let entries = read_rows(alloc, cursor, u64::MAX)?;
+    let entries = read_rows(alloc, cursor)?;
     Ok(storage_of(alloc, entries)?)
 }
 
@@ -48,7 +49,7 @@ fn write_value(key: &[u8], value: &[u8], out: &mut Vec<u8>) -> Result<(), AllocE
     push_blob(out, value)
 }
 
-fn write_values(storage: &Storage, out: &mut Vec<u8>) -> Result<(), AllocError>
+fn write_entries(storage: &Storage, out: &mut Vec<u8>) -> Result<(), AllocError>
     ensures ok { OnOk result (out.new.items ≡ out.old.items ++ items_spelled (entry_of blob_after (blob_where any)) None (fin.entries storage.now)) }
     ensures fits { OnOk result (items_fit (entry_of blob_after (blob_where any)) (length (fin.entries storage.now)) None (fin.entries storage.now)) }
 {
@@ -63,9 +64,9 @@ fn write_values(storage: &Storage, out: &mut Vec<u8>) -> Result<(), AllocError>
 /// # Errors
 /// Want of memory; a part may have been added then.
 pub fn write_storage(storage: &Storage, out: &mut Vec<u8>) -> Result<(), AllocError>
-    ensures ok { OnOk result (out.new.items ≡ out.old.items ++ values_format.spell storage.now) }
-    ensures fits { OnOk result (values_format.Fits storage.now) }
+    ensures ok { OnOk result (out.new.items ≡ out.old.items ++ storage_format.spell storage.now) }
+    ensures fits { OnOk result (storage_format.Fits storage.now) }
 {
     push_natural(out, storage.len() as u64)?;
-    write_values(storage, out)
+    write_entries(storage, out)
 }

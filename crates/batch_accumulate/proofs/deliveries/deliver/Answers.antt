@@ -1,17 +1,18 @@
-use Rattle.std.proofs.Common.{◌≡◌, List, ℕ, sym, subst, ◌∙◌, is_some, unwrap_or}
-use Rattle.jam_accounts.specs.Receipt.{received}
-use Rattle.batch_accumulate.proofs.OneDelivery.{none_delivered, one_delivered}
+use Rattle.std.proofs.Common.{ap, sym, subst, ◌∙◌, IsSome, refl}
+use Rattle.std.specs.FinMap as fin
+use Rattle.batch_accumulate.proofs.OneDelivery.{get-inserted, delivered_as, left_as}
 use Rattle.batch_accumulate.proofs.deliveries.deliver.Goals as goal
 
-pub returns-in_default : goal.returns-in_default
-returns-in_default c = λ n. none_delivered c.args.accounts.now c.args.delivery.now.service c.args.slot n c.args.delivery.now.bytes c.remove.new.self (sym c.remove.ensures.value ∙ c.in_default.is) c.remove.ensures.after
+pub replace-requires : goal.replace-requires
+replace-requires c =
+    subst IsSome (sym (ap (λ m. fin.get m c.args.delivery.now.service) c.replace-account.ensures.after ∙ get-inserted c.args.accounts.now c.args.delivery.now.service c.blank.result)) refl
 
-pub returns : goal.returns
-returns c =
-    let bytes = c.as_slice.ensures in
-    let whether : c.in_ok-stored.stored ≡ is_some (received c.args.slot c.args.delivery.now.bytes c.in-Some.account) =
-    subst (λ (b : List ℕ). c.in_ok-stored.stored ≡ is_some (received c.args.slot b c.in-Some.account)) bytes c.in_ok-stored.ensures.stored in
-    let what : c.receive.new.self ≡ unwrap_or (received c.args.slot c.args.delivery.now.bytes c.in-Some.account) c.in-Some.account =
-    subst (λ (b : List ℕ). c.receive.new.self ≡ unwrap_or (received c.args.slot b c.in-Some.account) c.in-Some.account) bytes c.in_ok-stored.ensures.after in
-    λ n. one_delivered c.args.accounts.now c.args.delivery.now.service c.args.slot n c.args.delivery.now.bytes c.in-Some.account c.receive.new.self c.remove.new.self c.put.new.self c.in_ok-stored.stored
-    (sym c.in-Some.ensures.value) c.remove.ensures.after whether what c.in_ok-put.ensures.ok
+pub returns-clause-made : goal.returns-clause-made
+returns-clause-made c =
+    delivered_as c.args.accounts.now c.args.delivery.now.service c.args.slot c.args.delivery.now.bytes c.as_slice.result.now c.blank.result c.replace-account.result c.receive-stored.new.self c.replace-account.new.self c.replace.new.self
+    c.as_slice.ensures c.replace-account.ensures.value c.replace-account.ensures.after c.replace.ensures.after c.receive-stored.result c.receive-stored.ensures.stored c.receive-stored.ensures.after
+
+pub returns-clause-err : goal.returns-clause-err
+returns-clause-err c =
+    left_as c.args.accounts.now c.args.delivery.now.service c.args.slot c.args.delivery.now.bytes c.as_slice.result.now c.blank.result c.replace-account.result c.receive-stored.new.self c.replace-account.new.self c.replace.new.self
+    c.as_slice.ensures c.replace-account.ensures.value c.replace-account.ensures.after c.replace.ensures.after c.receive-stored.result c.receive-stored.ensures.err

@@ -1,20 +1,20 @@
 use Rattle.std.proofs.Common.{ap, ◌∙◌, ◌++◌, ℕ, List, None, arith, length}
 use Rattle.std.specs.FinMap as fin
 use Rattle.state_file.specs.StateFile.{account_format}
-use Rattle.state_file.proofs.Maps.{on_ok-and, counted, most_fits}
+use Rattle.state_file.proofs.Maps.{on_ok-and, counted, count_fits}
 use Rattle.jam_codec.specs.Format.{items_spelled}
 use Rattle.jam_codec.specs.Lists.{number_after, entry_of}
 use Rattle.state_file.proofs.account.write_accounts.Goals as goal
 
 pub returns-clause-ok : goal.returns-clause-ok
 returns-clause-ok c =
-    on_ok-and c.write_services.result
-    (λ written. written ∙ ap (λ (bytes : List ℕ). bytes ++ items_spelled (entry_of (number_after 4) account_format) None (fin.entries c.args.accounts.now)) c.in_ok-push_natural.ensures.ok
-    ∙ counted c.args.out.now.items c.len.result (length (fin.entries c.args.accounts.now)) (items_spelled (entry_of (number_after 4) account_format) None (fin.entries c.args.accounts.now)) (c.len.ensures.count ∙ fin.len-entries c.args.accounts.now))
-    c.write_services.ensures.ok
+    on_ok-and c.write_entries.result
+    (λ written. written ∙ ap (λ (bytes : List ℕ). bytes ++ items_spelled (entry_of (number_after 4) (account_format c.args.version)) None (fin.entries c.args.accounts.now)) c.in_ok-push_natural.ensures.ok
+    ∙ counted c.args.out.now.items c.len.result (length (fin.entries c.args.accounts.now)) (items_spelled (entry_of (number_after 4) (account_format c.args.version)) None (fin.entries c.args.accounts.now)) (c.len.ensures.count ∙ fin.len-entries c.args.accounts.now))
+    c.write_entries.ensures.ok
 
 pub returns-clause-fits : goal.returns-clause-fits
 returns-clause-fits c =
-    on_ok-and c.write_services.result
-    (λ fit. (most_fits (length (fin.entries c.args.accounts.now)) (omega (arith, c.len.ensures.small, c.len.ensures.count, fin.len-entries c.args.accounts.now)), fit))
-    c.write_services.ensures.fits
+    on_ok-and c.write_entries.result
+    (λ fit. (count_fits (length (fin.entries c.args.accounts.now)) (omega (arith, c.len.ensures.small, c.len.ensures.count, fin.len-entries c.args.accounts.now)), fit))
+    c.write_entries.ensures.fits

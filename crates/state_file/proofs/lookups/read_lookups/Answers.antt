@@ -1,9 +1,8 @@
-use Rattle.jam_codec.specs.Lists.{hash_and_number_after}
-use Rattle.jam_codec.proofs.Lists.{hash_and_number_total}
+use Rattle.jam_codec.specs.Lists.{hash_and_number_cmp, hash_and_number_after}
+use Rattle.jam_codec.proofs.FormatLaws.{hash_and_number_total}
 use Rattle.jam_fields.proofs.Sorted.{map_sorted, hash_and_number_above}
-use Rattle.jam_accounts.specs.Accounts.{lookup_cmp}
-use Rattle.state_file.specs.StateFile.{most, history_format}
+use Rattle.state_file.specs.StateFile.{history_format}
 use Rattle.state_file.proofs.lookups.read_lookups.Goals as goal
 
 pub lookups_of-requires : goal.lookups_of-requires
-lookups_of-requires c = map_sorted lookup_cmp hash_and_number_total most hash_and_number_after history_format hash_and_number_above c.args.cursor.now c.in_ok-entries.entries.items c.read_rows.new.cursor c.in_ok-entries.ensures.exact
+lookups_of-requires c = map_sorted hash_and_number_cmp hash_and_number_total hash_and_number_after history_format hash_and_number_above c.args.cursor.now c.in_ok-entries.entries.items c.read_rows.new.cursor c.in_ok-entries.ensures.exact

@@ -6,11 +6,10 @@ use Rattle.jam_codec.specs.Format.{any}
 use Rattle.jam_codec.specs.Lists.{blob_where, blob_after}
 use Rattle.jam_fields.proofs.Sorted.{map_sorted, blob_above}
 use Rattle.jam_accounts.specs.Accounts.{bytes_cmp}
-use Rattle.state_file.specs.StateFile.{most}
 use Rattle.state_file.proofs.storage.read_storage.Goals as goal
 
 pub storage_of-requires : goal.storage_of-requires
-storage_of-requires c = map_sorted bytes_cmp nat_list_cmp_total most blob_after (blob_where any) blob_above c.args.cursor.now c.in_ok-entries.entries.items c.read_rows.new.cursor c.in_ok-entries.ensures.exact
+storage_of-requires c = map_sorted bytes_cmp nat_list_cmp_total blob_after (blob_where any) blob_above c.args.cursor.now c.in_ok-entries.entries.items c.read_rows.new.cursor c.in_ok-entries.ensures.exact
 
 pub returns-clause-small : goal.returns-clause-small
 returns-clause-small c =

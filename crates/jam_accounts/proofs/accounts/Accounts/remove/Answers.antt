@@ -13,5 +13,5 @@ returns-clause-value c = c.remove.ensures.value ∙ sym (option_map_id _) ∙ sy
 
 pub returns-clause-after : goal.returns-clause-after
 returns-clause-after c =
-    removed nat_cmp (λ (k : ℕ). k) (λ (v : Account). v) nat_cmp_total nat_cmp-IsAntisymmetric c.self.inside.map c.remove.new.self c.args.id c.len-count.ensures.ordered c.remove.ensures.entries
+    removed nat_cmp (λ (k : ℕ). k) (λ (v : Account). v) nat_cmp_total nat_cmp-IsAntisymmetric c.self.inside.map c.remove.new.self c.args.id c.remove.ensures.updates
     ∙ ap (λ m. fin.remove m c.args.id) c.self.view_is

@@ -1,12 +1,12 @@
 use Rattle.std.proofs.Common.{ap, sym, ◌∙◌, ℕ, List}
 use Rattle.std.specs.FinMap as fin
 use Rattle.jam_accounts.specs.Seen.{plain}
-use Rattle.jam_accounts.specs.Accounts.{lookup_cmp}
+use Rattle.jam_codec.specs.Lists.{hash_and_number_cmp}
 use Rattle.jam_accounts.proofs.Maps.{entries_seen, lookups_total}
 use Rattle.jam_accounts.proofs.lookups.Lookups.entries.Goals as goal
 
 pub returns : goal.returns
 returns c =
     ap (plain (λ (k : List ℕ × ℕ). k) (λ (v : List ℕ). v)) c.iter.ensures.rest
-    ∙ sym (entries_seen lookup_cmp (λ (k : List ℕ × ℕ). k) (λ (v : List ℕ). v) lookups_total c.self.inside.map c.iter.ensures.ordered)
+    ∙ sym (entries_seen hash_and_number_cmp (λ (k : List ℕ × ℕ). k) (λ (v : List ℕ). v) lookups_total c.self.inside.map c.iter.ensures.ordered)
     ∙ ap fin.entries c.self.view_is

@@ -4,7 +4,7 @@ use Rattle.std.specs.Cmp.Lexicographic.{nat_list_cmp_total}
 use Rattle.blake2b_core.specs.Blake2b.{digest}
 use Rattle.jam_accounts.specs.Accounts.{StandUnderDigests}
 use Rattle.jam_accounts.specs.Accounts.{bytes_cmp}
-use Rattle.jam_accounts.proofs.Maps.{inserted, of_inserted, bytes_same}
+use Rattle.jam_accounts.proofs.Maps.{on_err, nothing_seen, inserted, of_inserted, bytes_same}
 use Rattle.jam_accounts.proofs.preimages.Preimages.put_under.Goals as goal
 
 pub invariant_of-self-2 : goal.invariant_of-self-2
@@ -16,3 +16,7 @@ pub returns-clause-ok : goal.returns-clause-ok
 returns-clause-ok c =
     inserted bytes_cmp (λ (k : List ℕ). k) (λ (v : Vec ℕ Global). v.items) nat_list_cmp_total bytes_same c.self.inside.map c.insert.new.self c.args.hash c.args.bytes c.in_ok-insert.ensures.entries
     ∙ ap (λ m. fin.insert m c.args.hash c.args.bytes.items) c.self.view_is
+
+pub returns-in_err-insert-clause-absent : goal.returns-in_err-insert-clause-absent
+returns-in_err-insert-clause-absent c =
+    on_err c.from_residual.result (sym (ap (λ m. fin.get m c.args.hash) c.self.view_is) ∙ nothing_seen bytes_cmp (λ (k : List ℕ). k) (λ (v : Vec ℕ Global). v.items) nat_list_cmp_total c.self.inside.map c.args.hash c.in_err-insert.ensures.absent)

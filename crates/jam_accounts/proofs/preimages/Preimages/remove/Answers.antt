@@ -9,7 +9,7 @@ use Rattle.jam_accounts.proofs.preimages.Preimages.remove.Goals as goal
 
 pub invariant_of-self : goal.invariant_of-self
 invariant_of-self c =
-    subst StandUnderDigests (sym (removed bytes_cmp (λ (k : List ℕ). k) (λ (v : Vec ℕ Global). v.items) nat_list_cmp_total bytes_same c.self.inside.map c.remove.new.self c.args.hash.now c.len-count.ensures.ordered c.remove.ensures.entries))
+    subst StandUnderDigests (sym (removed bytes_cmp (λ (k : List ℕ). k) (λ (v : Vec ℕ Global). v.items) nat_list_cmp_total bytes_same c.self.inside.map c.remove.new.self c.args.hash.now c.remove.ensures.updates))
     (of_removed (λ (hash bytes : List ℕ). hash ≡ digest bytes) nat_list_cmp_total _ c.args.hash.now c.self.invariant)
 
 pub returns-clause-value : goal.returns-clause-value
@@ -19,5 +19,5 @@ returns-clause-value c =
 
 pub returns-clause-after : goal.returns-clause-after
 returns-clause-after c =
-    removed bytes_cmp (λ (k : List ℕ). k) (λ (v : Vec ℕ Global). v.items) nat_list_cmp_total bytes_same c.self.inside.map c.remove.new.self c.args.hash.now c.len-count.ensures.ordered c.remove.ensures.entries
+    removed bytes_cmp (λ (k : List ℕ). k) (λ (v : Vec ℕ Global). v.items) nat_list_cmp_total bytes_same c.self.inside.map c.remove.new.self c.args.hash.now c.remove.ensures.updates
     ∙ ap (λ m. fin.remove m c.args.hash.now) c.self.view_is

@@ -13,5 +13,5 @@ returns-clause-value c =
 
 pub returns-clause-after : goal.returns-clause-after
 returns-clause-after c =
-    removed bytes_cmp (λ (k : Vec ℕ Global). k.items) (λ (v : Vec ℕ Global). v.items) nat_list_cmp_total bytes_same c.self.inside.map c.remove.new.self c.args.key.now c.len-count.ensures.ordered c.remove.ensures.entries
+    removed bytes_cmp (λ (k : Vec ℕ Global). k.items) (λ (v : Vec ℕ Global). v.items) nat_list_cmp_total bytes_same c.self.inside.map c.remove.new.self c.args.key.now c.remove.ensures.updates
     ∙ ap (λ m. fin.remove m c.args.key.now) c.self.view_is

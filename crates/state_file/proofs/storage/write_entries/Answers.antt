@@ -5,7 +5,7 @@ use Rattle.jam_codec.specs.Format.{any}
 use Rattle.jam_codec.specs.Lists.{blob_where, blob_after, entry_of}
 use Rattle.jam_fields.proofs.Items.{AddedWhole, none_added_whole, one_added_whole}
 use Rattle.state_file.proofs.Maps.{follows_before}
-use Rattle.state_file.proofs.storage.write_values.Goals as goal
+use Rattle.state_file.proofs.storage.write_entries.Goals as goal
 
 pub loop-key-init : goal.loop-key-init
 loop-key-init c =

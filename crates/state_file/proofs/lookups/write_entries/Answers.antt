@@ -1,12 +1,12 @@
 use Rattle.std.proofs.Common.{sym, ◌∙◌, ◌∷◌, ℕ, List, subst, option_map}
 use Rattle.std.specs.FinMap as fin
 use Rattle.jam_codec.specs.Lists.{hash_and_number_after, entry_of}
-use Rattle.jam_codec.proofs.Lists.{hash_and_number_total}
+use Rattle.jam_codec.proofs.FormatLaws.{hash_and_number_total}
 use Rattle.jam_fields.specs.Rows.{last_of}
 use Rattle.jam_fields.proofs.Items.{AddedWhole, none_added_whole, one_added_whole}
 use Rattle.state_file.specs.StateFile.{history_format}
 use Rattle.state_file.proofs.Maps.{follows_before, hash_from}
-use Rattle.state_file.proofs.lookups.write_histories.Goals as goal
+use Rattle.state_file.proofs.lookups.write_entries.Goals as goal
 
 pub loop-hash-init : goal.loop-hash-init
 loop-hash-init c =
