@@ -5,11 +5,10 @@ use Rattle.jam_outside.specs.Causes.{VaultState, SinkState, Appends, AppendsPref
 use Rattle.std.proofs.Math.Seq.{take-length}
 use Rattle.jam_cli.specs.declared.refusal.Refusal.{Refusal}
 use Rattle.jam_cli.specs.declared.refusal.Refusal.TheVariants.{NoMemory, BadWords, ReadFault, TooLong, NotSpelled, SinkFault, StoreFault}
-use Rattle.jam_cli.specs.declared.reads.File as code_file
 use Rattle.jam_cli.specs.Table.{Input, Command, Asks, inputs}
 use Rattle.jam_cli.specs.Command.{File, held, kinds, SpellAll, Work}
 use Rattle.jam_cli.specs.Ending.{Call, call, AllRead, FirstRefused, IsInputWord}
-use Rattle.jam_cli.specs.Parts.{NotRead, NotAllSpelled, NotPrinted, NotStored, IsWork, Makes, Ends, CallEnds, name_in, plain, plain_files, inputs_in}
+use Rattle.jam_cli.specs.Parts.{NotRead, NotAllSpelled, NotPrinted, NotStored, IsWork, Makes, Ends, CallEnds, name_in, inputs_of, AreHeld}
 use Rattle.jam_cli.proofs.Once.{entry_named}
 
 -- where a fact holds of what is told, so does what follows from it
@@ -27,16 +26,13 @@ read_ends c (NotSpelled word place) v w s not = absurd not
 read_ends c SinkFault v w s not = absurd not
 read_ends c StoreFault v w s not = absurd not
 
-abbrev inputs_of : List File → List Input
-inputs_of fs = map (λ (f : File). f.input) fs
-
 refused_word : (fs : List File) (word place : ℕ) → FirstRefused fs word place → IsInputWord (inputs_of fs) word
 refused_word [] word place first = absurd first
 refused_word (f ∷ fs) word place first = elim first [ inl here ↦ inl here.0 | inr later ↦ inr (refused_word fs word place later.1) ]
 
 -- what was read, where it is told
 abbrev pub WereRead : Command → VaultState → List File → Type 0
-WereRead c v fs = IfSome v.files (λ files. AllRead (held files (inputs c)) × (fs ≡ held files (inputs c)))
+WereRead c v fs = AreHeld v.files (inputs c) fs
 
 -- one of the files spells no value
 pub spell_ends : (c : Command) (refusal : Refusal) (v w : VaultState) (s : SinkState) (fs : List File)
@@ -91,13 +87,8 @@ store_ends c SinkFault v u x s t w made kept all same not = absurd not
 
 -- ---- As the code has it
 
-pub inputs_plain : (fs : List code_file.File) → inputs_of (plain_files fs) ≡ inputs_in fs
-inputs_plain [] = refl
-inputs_plain (f ∷ fs) = ap (λ is. plain f.input ∷ is) (inputs_plain fs)
-
-pub were_read : (c : Command) (v : VaultState) (is : List Input) (fs : List File) → is ≡ inputs c
-    → IfSome v.files (λ files. AllRead (held files is) × (fs ≡ held files is)) → WereRead c v fs
-were_read c v is fs are read = subst (λ js. IfSome v.files (λ files. AllRead (held files js) × (fs ≡ held files js))) are read
+pub were_read : (c : Command) (v : VaultState) (is : List Input) (fs : List File) → is ≡ inputs c → AreHeld v.files is fs → WereRead c v fs
+were_read c v is fs are read = subst (λ js. AreHeld v.files js fs) are read
 
 pub call_ends : (r : Result (Unit {0}) Refusal) (c : Command) (words : List (List ℕ)) (k : Call) → Asks c words → Ends r c k → CallEnds r words k
 call_ends (Ok x) c words k asks ends = (c, asks, ends)

@@ -1,8 +1,10 @@
 -- What the parts of a call say. Proofs alone need this.
 use Rattle.std.specs.Prelude.{◌≡◌, ◌⊎◌, ℕ, ◌≤◌, List, [], ◌∷◌, map, Option, Some, None, option_map, IfSome, Result, Ok, Err, decimal}
+use Rattle.jam_outside.specs.Files.{Files}
 use Rattle.jam_outside.specs.Causes.{VaultState, SinkState, Raised, Appends, AppendsPrefix, read_failed, store_made, store_done, store_failed}
 use Rattle.jam_outside.specs.declared.whole.ReadRefusal.{ReadRefusal}
 use Rattle.jam_outside.specs.declared.whole.ReadRefusal.TheVariants as read
+use Rattle.blake2b_core.specs.Blake2b.{digest}
 use Rattle.jam_codec.specs.declared.refusal.FileRefusal.{FileRefusal}
 use Rattle.jam_codec.specs.declared.refusal.FileRefusal.TheVariants as codec
 use Rattle.jam_cli.specs.declared.status.Status.{Status}
@@ -10,6 +12,7 @@ use Rattle.jam_cli.specs.declared.status.Status.TheVariants as status
 use Rattle.jam_cli.specs.declared.refusal.Refusal.{Refusal}
 use Rattle.jam_cli.specs.declared.refusal.Refusal.TheVariants.{NoMemory, BadWords, ReadFault, TooLong, NotSpelled, SinkFault, StoreFault}
 use Rattle.jam_cli.specs.declared.verb.Kind.{Kind}
+use Rattle.jam_cli.specs.declared.verb.Kind.TheVariants.{Program, Bytes, State, Batch}
 use Rattle.jam_cli.specs.declared.verb.Verb.{Verb}
 use Rattle.jam_cli.specs.declared.verb.Verb.TheVariants as the
 use Rattle.jam_cli.specs.declared.words.Command as parsed
@@ -19,11 +22,13 @@ use Rattle.jam_cli.specs.declared.words.Misfit.{Misfit}
 use Rattle.jam_cli.specs.declared.words.Misfit.TheVariants as misfit
 use Rattle.jam_cli.specs.declared.reads.Input as code_input
 use Rattle.jam_cli.specs.declared.reads.File as code_file
+use Rattle.jam_cli.specs.declared.kept.Kept as kept_file
+use Rattle.jam_cli.specs.declared.kept.Kept.TheVariants as kept
 use Rattle.jam_cli.specs.declared.work.Work as code_work
 use Rattle.jam_cli.specs.declared.work.Entry as code_entry
 use Rattle.jam_cli.specs.Table.{Part, reads, stores, number, row, Argument, Arguments, FitAll, Command, command, Asks, AsksNothing, Input, inputs, stored_name, NamesNone}
 use Rattle.jam_cli.specs.Command.{File, held, kinds, Values, SpellAll, IsRefusedAt, Work, work}
-use Rattle.jam_cli.specs.Ending.{Call, limit, FirstTooLong, FirstRefused, FirstNamed, IsInputWord, Gives, IsReadFault, IsTooLong, IsRefused}
+use Rattle.jam_cli.specs.Ending.{Call, limit, AllRead, FirstTooLong, FirstRefused, FirstNamed, IsInputWord, Gives, IsReadFault, IsTooLong, IsRefused}
 
 -- ---- The words
 
@@ -71,15 +76,59 @@ Parses verb words (Err misfit.NoMemory) = Unit {0}
 
 -- ---- The files
 
--- the files that the code holds
-abbrev pub plain_file : code_file.File → File
-plain_file f = record { input = plain f.input; bytes = f.bytes.items }
+-- a file that is kept as a whole
+abbrev pub KeepsWhole : kept_file.Kept → List ℕ → Type 0
+KeepsWhole (kept.Whole v) bytes = v.items ≡ bytes
+KeepsWhole (kept.Digest d) bytes = ⊥
 
-abbrev pub plain_files : List code_file.File → List File
-plain_files fs = map plain_file fs
+-- one of which the digest is kept
+abbrev pub KeepsDigest : kept_file.Kept → List ℕ → Type 0
+KeepsDigest (kept.Whole v) bytes = ⊥
+KeepsDigest (kept.Digest d) bytes = d ≡ digest bytes
+
+-- a file of a kind is kept so
+abbrev pub Keeps : Kind → kept_file.Kept → List ℕ → Type 0
+Keeps Bytes k bytes = KeepsDigest k bytes
+Keeps Program k bytes = KeepsWhole k bytes
+Keeps State k bytes = KeepsWhole k bytes
+Keeps Batch k bytes = KeepsWhole k bytes
+
+-- the code holds this file
+pub record IsFile (f : code_file.File) (g : File) : Type 0 where
+  pub input : g.input ≡ plain f.input
+  pub kept : Keeps f.input.kind f.kept g.bytes
+
+-- it holds these, one after another
+abbrev pub AreFiles : List code_file.File → List File → Type 0
+AreFiles [] [] = Unit {0}
+AreFiles [] (g ∷ gs) = ⊥
+AreFiles (f ∷ fs) [] = ⊥
+AreFiles (f ∷ fs) (g ∷ gs) = IsFile f g × AreFiles fs gs
+
+-- it holds some
+abbrev pub AreKept : List code_file.File → Type 0
+AreKept fs = (gs : List File) × AreFiles fs gs
+
+-- so of those that it holds
+abbrev pub OfFiles : List code_file.File → (List File → Type 0) → Type 0
+OfFiles fs P = (gs : List File) → AreFiles fs gs → P gs
 
 abbrev pub inputs_in : List code_file.File → List Input
 inputs_in fs = map (λ (f : code_file.File). plain f.input) fs
+
+abbrev pub inputs_of : List File → List Input
+inputs_of fs = map (λ (f : File). f.input) fs
+
+-- where the files are told, these are those of inputs, and hold no more than is read
+abbrev pub AreHeld : Option Files → List Input → List File → Type 0
+AreHeld told is fs = IfSome told (λ files. AllRead (held files is) × (fs ≡ held files is))
+
+-- the code holds the files of inputs
+pub record AreRead (told : Option Files) (is : List Input) (all : List code_file.File) : Type 0 where
+  pub files : List File
+  pub are : AreFiles all files
+  pub inputs : inputs_of files ≡ is
+  pub read : AreHeld told is files
 
 -- some of the files were not read
 abbrev pub NotRead : Refusal → List Input → VaultState → VaultState → Type 0

@@ -4,6 +4,7 @@
 mod accumulate;
 mod deliver;
 mod hash;
+mod kept;
 mod laws;
 mod number;
 mod reads;

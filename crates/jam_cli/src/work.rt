@@ -4,7 +4,7 @@ ghost use Rattle.jam_cli.specs.declared.verb.Kind.TheVariants as kind;
 ghost use Rattle.jam_cli.specs.declared.verb.Verb.TheVariants as the;
 ghost use Rattle.jam_cli.specs.Table.{command, inputs};
 ghost use Rattle.jam_cli.specs.Command.{kinds};
-ghost use Rattle.jam_cli.specs.Parts.{asked, plain_files, inputs_in, plain_work, IsWork, NotAllSpelled};
+ghost use Rattle.jam_cli.specs.Parts.{asked, inputs_in, plain_work, AreKept, OfFiles, IsWork, NotAllSpelled};
 
 use crate::accumulate::accumulate;
 use crate::hash::hash;
@@ -12,7 +12,7 @@ use crate::number::Small;
 use crate::reads::File;
 use crate::refusal::Refusal;
 use crate::run::run;
-use crate::values::Contents;
+use crate::values::{Contents, Digest, Whole};
 use crate::words::Command;
 use std::alloc::Global;
 
@@ -37,22 +37,24 @@ fn run_on<'a>(
     gas: Small,
     files: &[File<'_>],
 ) -> Result<Work<'a>, Refusal>
-    requires { kinds (inputs_in files.now) ≡ kind.Program ∷ [] }
-    ensures made { IfOk result (λ work. IsWork (command the.Run (blob.now, (gas.value, tt))) (plain_files files.now) (plain_work work)) }
-    ensures refused { IfErr result (λ refusal. NotAllSpelled refusal (plain_files files.now)) }
+    requires kinds { kinds (inputs_in files.now) ≡ kind.Program ∷ [] }
+    requires kept { AreKept files.now }
+    ensures made { IfOk result (λ work. OfFiles files.now (λ fs. IsWork (command the.Run (blob.now, (gas.value, tt))) fs (plain_work work))) }
+    ensures refused { IfErr result (λ refusal. OfFiles files.now (λ fs. NotAllSpelled refusal fs)) }
 {
-    let (program, ()) = Contents::decode_all(alloc, files)?;
+    let (Whole(program), ()) = Contents::decode_all(alloc, files)?;
     Ok(run(alloc, program, gas)?)
 }
 
 #[tactic(auto, using(std::proofs::lemmas::Result::err_from_is_err_and))]
 fn hash_on<'a>(alloc: Global, file: &'a str, files: &[File<'_>]) -> Result<Work<'a>, Refusal>
-    requires { kinds (inputs_in files.now) ≡ kind.Bytes ∷ [] }
-    ensures made { IfOk result (λ work. IsWork (command the.Hash (file.now, tt)) (plain_files files.now) (plain_work work)) }
-    ensures refused { IfErr result (λ refusal. NotAllSpelled refusal (plain_files files.now)) }
+    requires kinds { kinds (inputs_in files.now) ≡ kind.Bytes ∷ [] }
+    requires kept { AreKept files.now }
+    ensures made { IfOk result (λ work. OfFiles files.now (λ fs. IsWork (command the.Hash (file.now, tt)) fs (plain_work work))) }
+    ensures refused { IfErr result (λ refusal. OfFiles files.now (λ fs. NotAllSpelled refusal fs)) }
 {
-    let (bytes, ()): (&[u8], ()) = Contents::decode_all(alloc, files)?;
-    Ok(hash(alloc, bytes)?)
+    let (Digest(digest), ()) = Contents::decode_all(alloc, files)?;
+    Ok(hash(alloc, digest)?)
 }
 
 #[tactic(auto, using(std::proofs::lemmas::Result::err_from_is_err_and))]
@@ -64,11 +66,12 @@ fn accumulate_on<'a>(
     slice: u64,
     files: &[File<'_>],
 ) -> Result<Work<'a>, Refusal>
-    requires { kinds (inputs_in files.now) ≡ kind.State ∷ (kind.Batch ∷ []) }
-    ensures made { IfOk result (λ work. IsWork (command the.Accumulate (state.now, (batch.now, (posterior.now, (slice, tt))))) (plain_files files.now) (plain_work work)) }
-    ensures refused { IfErr result (λ refusal. NotAllSpelled refusal (plain_files files.now)) }
+    requires kinds { kinds (inputs_in files.now) ≡ kind.State ∷ (kind.Batch ∷ []) }
+    requires kept { AreKept files.now }
+    ensures made { IfOk result (λ work. OfFiles files.now (λ fs. IsWork (command the.Accumulate (state.now, (batch.now, (posterior.now, (slice, tt))))) fs (plain_work work))) }
+    ensures refused { IfErr result (λ refusal. OfFiles files.now (λ fs. NotAllSpelled refusal fs)) }
 {
-    let (prior, (batch, ())) = Contents::decode_all(alloc, files)?;
+    let (Whole(prior), (Whole(batch), ())) = Contents::decode_all(alloc, files)?;
     Ok(accumulate(alloc, &prior, &batch, posterior)?)
 }
 
@@ -78,9 +81,10 @@ pub fn work_of<'a>(
     command: Command<'a>,
     files: &[File<'_>],
 ) -> Result<Work<'a>, Refusal>
-    requires { kinds (inputs_in files.now) ≡ kinds (inputs (asked command)) }
-    ensures made { IfOk result (λ work. IsWork (asked command.entry) (plain_files files.now) (plain_work work)) }
-    ensures refused { IfErr result (λ refusal. NotAllSpelled refusal (plain_files files.now)) }
+    requires kinds { kinds (inputs_in files.now) ≡ kinds (inputs (asked command)) }
+    requires kept { AreKept files.now }
+    ensures made { IfOk result (λ work. OfFiles files.now (λ fs. IsWork (asked command.entry) fs (plain_work work))) }
+    ensures refused { IfErr result (λ refusal. OfFiles files.now (λ fs. NotAllSpelled refusal fs)) }
 {
     match command {
         Command::Run { blob, gas } => run_on(alloc, blob, gas, files),
