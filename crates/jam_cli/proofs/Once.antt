@@ -13,7 +13,7 @@ use Rattle.jam_cli.specs.declared.verb.Kind.TheVariants.{Program, Bytes, State, 
 use Rattle.jam_cli.specs.declared.verb.Verb.{Verb}
 use Rattle.jam_cli.specs.declared.verb.Verb.TheVariants.{Run}
 use Rattle.jam_cli.specs.Table.{Part, reads, stores, number, row, Argument, Arguments, Fits, FitAll, Input, Command, command, inputs, stored_name, NamesNone}
-use Rattle.jam_cli.specs.Command.{format_of, Values, kinds, work_of}
+use Rattle.jam_cli.specs.Command.{format_of, Values, kinds, Work, made, bad_line, work_of}
 use Rattle.jam_cli.specs.Laws.{AskOnce, StoreApart, SpellOnce, RefuseOnce, EntryNamed}
 use Rattle.jam_cli.specs.Parts.{word_of, words_from, Lists}
 use Rattle.jam_cli.proofs.Listed.{lists_of}
@@ -83,14 +83,18 @@ none_named (j ∷ is) name i none (suc k, some, at) = none_named is name i none.
 pub apart : StoreApart
 apart c words name i asks stored = none_named (inputs c) name i (subst (λ (o : Option (List ℕ)). IfSome o (NamesNone (inputs c))) stored asks.apart)
 
--- an entry has the name of the table: the checker sees it for each verb
+-- what is made has an entry with the name of the table: the checker sees it for each verb
+abbrev IsNamed : Work → Option (List ℕ) → Type 0
+IsNamed (made p) name = option_map (λ (e : List ℕ × List ℕ). e.0) p.entry ≡ name
+IsNamed (bad_line line kind) name = Unit {0}
+
 named_of : (verb : Verb) (arguments : Arguments (row verb).parts) (values : Values (kinds (inputs (command verb arguments))))
-    → option_map (λ (e : List ℕ × List ℕ). e.0) (work_of verb arguments values).entry ≡ stored_name (command verb arguments)
+    → IsNamed (work_of verb arguments values) (stored_name (command verb arguments))
 named_of Run arguments values = refl
 named_of _ arguments values = refl
 
 pub entry_named : EntryNamed
-entry_named c values = named_of c.verb c.arguments values
+entry_named c values p is = subst (λ (w : Work). IsNamed w (stored_name c)) is (named_of c.verb c.arguments values)
 
 -- each kind's files have one value, and files have one list of values
 pub one_of_each : HasOneSpelling program_blob → HasOneSpelling state_format → HasOneSpelling batch_format → (kind : Kind) → HasOneSpelling (format_of kind)

@@ -5,7 +5,7 @@ use Rattle.jam_codec.specs.Format.{Spells}
 use Rattle.jam_codec.specs.declared.refusal.FileRefusal.{FileRefusal}
 use Rattle.jam_codec.specs.declared.refusal.FileRefusal.TheVariants as codec
 use Rattle.jam_cli.specs.declared.refusal.Refusal.{Refusal}
-use Rattle.jam_cli.specs.declared.refusal.Refusal.TheVariants.{NoMemory, BadWords, ReadFault, TooLong, NotSpelled, SinkFault, StoreFault}
+use Rattle.jam_cli.specs.declared.refusal.Refusal.TheVariants.{NoMemory, BadWords, ReadFault, TooLong, NotSpelled, BadLine, SinkFault, StoreFault}
 use Rattle.jam_cli.specs.declared.verb.Kind.{Kind}
 use Rattle.jam_cli.specs.declared.verb.Kind.TheVariants.{Program, Bytes, State, Batch}
 use Rattle.jam_cli.specs.declared.reads.File as code_file
@@ -28,6 +28,7 @@ none_later f fs (NotSpelled word place) here not = inr (here, not)
 none_later f fs BadWords here not = absurd not
 none_later f fs (ReadFault word) here not = absurd not
 none_later f fs (TooLong word) here not = absurd not
+none_later f fs (BadLine line kind) here not = absurd not
 none_later f fs SinkFault here not = absurd not
 none_later f fs StoreFault here not = absurd not
 

@@ -10,7 +10,7 @@ use Rattle.jam_codec.specs.declared.refusal.FileRefusal.TheVariants as codec
 use Rattle.jam_cli.specs.declared.status.Status.{Status}
 use Rattle.jam_cli.specs.declared.status.Status.TheVariants as status
 use Rattle.jam_cli.specs.declared.refusal.Refusal.{Refusal}
-use Rattle.jam_cli.specs.declared.refusal.Refusal.TheVariants.{NoMemory, BadWords, ReadFault, TooLong, NotSpelled, SinkFault, StoreFault}
+use Rattle.jam_cli.specs.declared.refusal.Refusal.TheVariants.{NoMemory, BadWords, ReadFault, TooLong, NotSpelled, BadLine, SinkFault, StoreFault}
 use Rattle.jam_cli.specs.declared.verb.Kind.{Kind}
 use Rattle.jam_cli.specs.declared.verb.Kind.TheVariants.{Program, Bytes, State, Batch}
 use Rattle.jam_cli.specs.declared.verb.Verb.{Verb}
@@ -27,8 +27,8 @@ use Rattle.jam_cli.specs.declared.kept.Kept.TheVariants as kept
 use Rattle.jam_cli.specs.declared.work.Work as code_work
 use Rattle.jam_cli.specs.declared.work.Entry as code_entry
 use Rattle.jam_cli.specs.Table.{Part, reads, stores, number, row, Argument, Arguments, FitAll, Command, command, Asks, AsksNothing, Input, inputs, stored_name, NamesNone}
-use Rattle.jam_cli.specs.Command.{File, held, kinds, Values, SpellAll, IsRefusedAt, Work, work}
-use Rattle.jam_cli.specs.Ending.{Call, limit, AllRead, FirstTooLong, FirstRefused, FirstNamed, IsInputWord, Gives, IsReadFault, IsTooLong, IsRefused}
+use Rattle.jam_cli.specs.Command.{File, held, kinds, Values, SpellAll, IsRefusedAt, Product, Work, made, bad_line, work}
+use Rattle.jam_cli.specs.Ending.{Call, limit, AllRead, FirstTooLong, FirstRefused, FirstNamed, IsInputWord, Produces, IsReadFault, IsTooLong, IsRefused, IsBadLine}
 
 -- ---- The words
 
@@ -164,12 +164,25 @@ NotAllSpelled refusal fs = ⊥
 abbrev pub entry_of : Option code_entry.Entry → Option (List ℕ × List ℕ)
 entry_of = option_map (λ (e : code_entry.Entry). (e.name.now, e.bytes.items))
 
+abbrev pub plain_product : code_work.Work → Product
+plain_product w = record { printed = w.text.items; entry = entry_of w.entry }
+
 abbrev pub plain_work : code_work.Work → Work
-plain_work w = record { printed = w.text.items; entry = entry_of w.entry }
+plain_work w = made (plain_product w)
 
 -- it is the command's work on what these files spell
 abbrev pub IsWork : Command → List File → Work → Type 0
 IsWork c fs w = (values : Values (kinds (inputs c))) × SpellAll (kinds (inputs c)) values fs × (w ≡ work c values)
+
+-- it was not done
+abbrev pub NotWorked : Refusal → Command → List File → Type 0
+NotWorked (BadLine line kind) c fs = IsWork c fs (bad_line line kind)
+NotWorked refusal c fs = NotAllSpelled refusal fs
+
+-- what the code made of files that it holds
+abbrev pub WorkedOn : Command → List code_file.File → Result code_work.Work Refusal → Type 0
+WorkedOn c fs (Ok w) = OfFiles fs (λ gs. IsWork c gs (plain_work w))
+WorkedOn c fs (Err refusal) = OfFiles fs (NotWorked refusal c)
 
 -- ---- What is handed out
 
@@ -196,32 +209,33 @@ NotStored refusal v w entry = ⊥
 -- ---- The call
 
 -- what a command gives of the files of a vault
-pub record Makes (c : Command) (v : VaultState) (w : Work) : Type 0 where
+pub record Makes (c : Command) (v : VaultState) (w : Product) : Type 0 where
   pub named : name_in w.entry ≡ stored_name c
-  pub gives : IfSome v.files (λ files. (values : Values (kinds (inputs c))) × Gives files c values × (w ≡ work c values))
+  pub gives : IfSome v.files (λ files. Produces files c w)
 
 -- the outside is as it was
 abbrev pub Untouched : Call → Type 0
 Untouched k = (k.vault_after ≡ k.vault) × (k.sink_after ≡ k.sink)
 
 -- all was printed, and the sink did not fail
-abbrev pub PrintsAll : Call → Work → Type 0
+abbrev pub PrintsAll : Call → Product → Type 0
 PrintsAll k w = Appends k.sink.taken k.sink_after.taken w.printed × (k.sink_after.faults ≡ k.sink.faults)
 
 -- a prefix was
-abbrev pub PrintsPrefix : Call → Work → Type 0
+abbrev pub PrintsPrefix : Call → Product → Type 0
 PrintsPrefix k w = AppendsPrefix k.sink.taken k.sink_after.taken w.printed × (k.sink_after.faults ≡ k.sink.faults)
 
 -- how a call of a command ends
 abbrev pub Ends : Result (Unit {0}) Refusal → Command → Call → Type 0
-Ends (Ok x) c k = (w : Work) × Makes c k.vault w × PrintsAll k w × (k.vault_after ≡ entry_stored w.entry k.vault)
-Ends (Err NoMemory) c k = Untouched k ⊎ ((w : Work) × Makes c k.vault w × PrintsPrefix k w × ((k.vault_after ≡ k.vault) ⊎ (k.vault_after ≡ store_made k.vault)))
+Ends (Ok x) c k = (w : Product) × Makes c k.vault w × PrintsAll k w × (k.vault_after ≡ entry_stored w.entry k.vault)
+Ends (Err NoMemory) c k = Untouched k ⊎ ((w : Product) × Makes c k.vault w × PrintsPrefix k w × ((k.vault_after ≡ k.vault) ⊎ (k.vault_after ≡ store_made k.vault)))
 Ends (Err BadWords) c k = ⊥
 Ends (Err (ReadFault word)) c k = IsReadFault c k word × (k.vault_after ≡ read_failed k.vault k.vault_after.failed k.vault_after.failed_place) × (k.sink_after ≡ k.sink)
 Ends (Err (TooLong word)) c k = IsTooLong c k word × Untouched k
 Ends (Err (NotSpelled word place)) c k = IsRefused c k word place × Untouched k
-Ends (Err SinkFault) c k = (w : Work) × Makes c k.vault w × AppendsPrefix k.sink.taken k.sink_after.taken w.printed × Raised k.sink.faults k.sink_after.faults × (k.vault_after ≡ k.vault)
-Ends (Err StoreFault) c k = (w : Work) × Makes c k.vault w × PrintsAll k w × ((name : List ℕ) × (name_in w.entry ≡ Some name) × (k.vault_after ≡ store_failed k.vault name))
+Ends (Err (BadLine line kind)) c k = IsBadLine c k line kind × Untouched k
+Ends (Err SinkFault) c k = (w : Product) × Makes c k.vault w × AppendsPrefix k.sink.taken k.sink_after.taken w.printed × Raised k.sink.faults k.sink_after.faults × (k.vault_after ≡ k.vault)
+Ends (Err StoreFault) c k = (w : Product) × Makes c k.vault w × PrintsAll k w × ((name : List ℕ) × (name_in w.entry ≡ Some name) × (k.vault_after ≡ store_failed k.vault name))
 
 -- how a call with these words ends
 abbrev pub CallEnds : Result (Unit {0}) Refusal → List (List ℕ) → Call → Type 0
@@ -237,5 +251,6 @@ status_of (Err BadWords) = status.BadWords
 status_of (Err (ReadFault word)) = status.ReadFault word
 status_of (Err (TooLong word)) = status.TooLong word
 status_of (Err (NotSpelled word place)) = status.Refused word place
+status_of (Err (BadLine line kind)) = status.BadLine line kind
 status_of (Err SinkFault) = status.SinkFault
 status_of (Err StoreFault) = status.StoreFault

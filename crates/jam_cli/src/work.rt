@@ -1,10 +1,10 @@
 // What each command makes of the values of its files.
-ghost use Rattle.std.specs.Prelude.{◌≡◌, [], ◌∷◌, IfOk, IfErr};
+ghost use Rattle.std.specs.Prelude.{◌≡◌, [], ◌∷◌};
 ghost use Rattle.jam_cli.specs.declared.verb.Kind.TheVariants as kind;
 ghost use Rattle.jam_cli.specs.declared.verb.Verb.TheVariants as the;
 ghost use Rattle.jam_cli.specs.Table.{command, inputs};
 ghost use Rattle.jam_cli.specs.Command.{kinds};
-ghost use Rattle.jam_cli.specs.Parts.{asked, inputs_in, plain_work, AreKept, OfFiles, IsWork, NotAllSpelled};
+ghost use Rattle.jam_cli.specs.Parts.{asked, inputs_in, AreKept, WorkedOn};
 
 use crate::accumulate::accumulate;
 use crate::hash::hash;
@@ -30,7 +30,7 @@ pub struct Work<'a> {
     pub entry: Option<Entry<'a>>,
 }
 
-#[tactic(auto, using(std::proofs::lemmas::Result::err_from_is_err_and))]
+#[tactic(auto, using(std::proofs::lemmas::Result::err_from_is_err_and, crate::proofs::Carried::not_worked))]
 fn run_on<'a>(
     alloc: Global,
     blob: &'a str,
@@ -39,25 +39,23 @@ fn run_on<'a>(
 ) -> Result<Work<'a>, Refusal>
     requires kinds { kinds (inputs_in files.now) ≡ kind.Program ∷ [] }
     requires kept { AreKept files.now }
-    ensures made { IfOk result (λ work. OfFiles files.now (λ fs. IsWork (command the.Run (blob.now, (gas.value, tt))) fs (plain_work work))) }
-    ensures refused { IfErr result (λ refusal. OfFiles files.now (λ fs. NotAllSpelled refusal fs)) }
+    ensures { WorkedOn (command the.Run (blob.now, (gas.value, tt))) files.now result }
 {
     let (Whole(program), ()) = Contents::decode_all(alloc, files)?;
     Ok(run(alloc, program, gas)?)
 }
 
-#[tactic(auto, using(std::proofs::lemmas::Result::err_from_is_err_and))]
+#[tactic(auto, using(std::proofs::lemmas::Result::err_from_is_err_and, crate::proofs::Carried::not_worked))]
 fn hash_on<'a>(alloc: Global, file: &'a str, files: &[File<'_>]) -> Result<Work<'a>, Refusal>
     requires kinds { kinds (inputs_in files.now) ≡ kind.Bytes ∷ [] }
     requires kept { AreKept files.now }
-    ensures made { IfOk result (λ work. OfFiles files.now (λ fs. IsWork (command the.Hash (file.now, tt)) fs (plain_work work))) }
-    ensures refused { IfErr result (λ refusal. OfFiles files.now (λ fs. NotAllSpelled refusal fs)) }
+    ensures { WorkedOn (command the.Hash (file.now, tt)) files.now result }
 {
     let (Digest(digest), ()) = Contents::decode_all(alloc, files)?;
     Ok(hash(alloc, digest)?)
 }
 
-#[tactic(auto, using(std::proofs::lemmas::Result::err_from_is_err_and))]
+#[tactic(auto, using(std::proofs::lemmas::Result::err_from_is_err_and, crate::proofs::Carried::not_worked))]
 fn accumulate_on<'a>(
     alloc: Global,
     state: &'a str,
@@ -68,8 +66,7 @@ fn accumulate_on<'a>(
 ) -> Result<Work<'a>, Refusal>
     requires kinds { kinds (inputs_in files.now) ≡ kind.State ∷ (kind.Batch ∷ []) }
     requires kept { AreKept files.now }
-    ensures made { IfOk result (λ work. OfFiles files.now (λ fs. IsWork (command the.Accumulate (state.now, (batch.now, (posterior.now, (slice, tt))))) fs (plain_work work))) }
-    ensures refused { IfErr result (λ refusal. OfFiles files.now (λ fs. NotAllSpelled refusal fs)) }
+    ensures { WorkedOn (command the.Accumulate (state.now, (batch.now, (posterior.now, (slice, tt))))) files.now result }
 {
     let (Whole(prior), (Whole(batch), ())) = Contents::decode_all(alloc, files)?;
     Ok(accumulate(alloc, &prior, &batch, posterior)?)
@@ -83,8 +80,7 @@ pub fn work_of<'a>(
 ) -> Result<Work<'a>, Refusal>
     requires kinds { kinds (inputs_in files.now) ≡ kinds (inputs (asked command)) }
     requires kept { AreKept files.now }
-    ensures made { IfOk result (λ work. OfFiles files.now (λ fs. IsWork (asked command.entry) fs (plain_work work))) }
-    ensures refused { IfErr result (λ refusal. OfFiles files.now (λ fs. NotAllSpelled refusal fs)) }
+    ensures { WorkedOn (asked command.entry) files.now result }
 {
     match command {
         Command::Run { blob, gas } => run_on(alloc, blob, gas, files),

@@ -3,7 +3,7 @@ use Rattle.trace_text.specs.declared.line.Line.TheVariants as of
 use Rattle.jam_cli.specs.Command.{prints}
 use Rattle.jam_cli.proofs.work.hash_on.Goals as goal
 
-pub returns-clause-made : goal.returns-clause-made
-returns-clause-made c = λ files are.
+pub returns : goal.returns
+returns c = λ files are.
     let spelled = c.in_ok-digest.ensures.spelled files are in
     (spelled.0, spelled.2, c.in_ok-hash.ensures ∙ ap (λ digest. prints (of.Digest digest ∷ [])) spelled.1.0)
