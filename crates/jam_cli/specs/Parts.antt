@@ -1,5 +1,5 @@
 -- What the parts of a call say. Proofs alone need this.
-use Rattle.std.specs.Prelude.{◌≡◌, ◌⊎◌, ℕ, ◌≤◌, List, [], ◌∷◌, map, Option, Some, None, option_map, IfSome, Result, Ok, Err, decimal}
+use Rattle.std.specs.Prelude.{◌≡◌, ◌⊎◌, ℕ, ◌≤◌, List, [], ◌∷◌, map, Option, Some, None, option_map, IfSome, Result, Ok, Err}
 use Rattle.jam_outside.specs.Files.{Files}
 use Rattle.jam_outside.specs.Causes.{VaultState, SinkState, Raised, Appends, AppendsPrefix, read_failed, store_made, store_done, store_failed}
 use Rattle.jam_outside.specs.declared.whole.ReadRefusal.{ReadRefusal}
@@ -18,15 +18,15 @@ use Rattle.jam_cli.specs.declared.verb.Verb.TheVariants as the
 use Rattle.jam_cli.specs.declared.words.Command as parsed
 use Rattle.jam_cli.specs.declared.words.Command.TheVariants as of
 use Rattle.jam_cli.specs.declared.words.Line as parsed_line
-use Rattle.jam_cli.specs.declared.words.Misfit.{Misfit}
-use Rattle.jam_cli.specs.declared.words.Misfit.TheVariants as misfit
+use Rattle.jam_cli.specs.declared.argument.Misfit.{Misfit}
+use Rattle.jam_cli.specs.declared.argument.Misfit.TheVariants as misfit
 use Rattle.jam_cli.specs.declared.reads.Input as code_input
 use Rattle.jam_cli.specs.declared.reads.File as code_file
 use Rattle.jam_cli.specs.declared.kept.Kept as kept_file
 use Rattle.jam_cli.specs.declared.kept.Kept.TheVariants as kept
 use Rattle.jam_cli.specs.declared.work.Work as code_work
 use Rattle.jam_cli.specs.declared.work.Entry as code_entry
-use Rattle.jam_cli.specs.Table.{Part, reads, stores, number, row, Argument, Arguments, FitAll, Command, command, Asks, AsksNothing, Input, inputs, stored_name, NamesNone}
+use Rattle.jam_cli.specs.Table.{row, Arguments, Command, command, Asks, AsksNothing, Input, inputs, stored_name, NamesNone}
 use Rattle.jam_cli.specs.Command.{File, held, kinds, Values, SpellAll, IsRefusedAt, Product, Work, made, bad_line, work}
 use Rattle.jam_cli.specs.Ending.{Call, limit, AllRead, FirstTooLong, FirstRefused, FirstNamed, IsInputWord, Produces, IsReadFault, IsTooLong, IsRefused, IsBadLine}
 
@@ -37,25 +37,6 @@ abbrev pub asked : parsed.Command → Command
 asked (of.Run blob gas) = command the.Run (blob.now, (gas.value, tt))
 asked (of.Hash file) = command the.Hash (file.now, tt)
 asked (of.Accumulate state batch posterior slice) = command the.Accumulate (state.now, (batch.now, (posterior.now, (slice, tt))))
-
--- the words of a command, where each argument has one word
-abbrev pub word_of : (part : Part) → Argument part → List ℕ
-word_of (reads kind) name = name
-word_of stores name = name
-word_of (number bound) n = decimal n
-
-abbrev pub words_from : (parts : List Part) → Arguments parts → List (List ℕ)
-words_from [] arguments = []
-words_from (part ∷ parts) arguments = word_of part arguments.0 ∷ words_from parts arguments.1
-
-abbrev pub words_of : Command → List (List ℕ)
-words_of c = (row c.verb).name ∷ words_from (row c.verb).parts c.arguments
-
--- the same as to ask for the command
-pub record Lists (c : Command) (words : List (List ℕ)) : Type 0 where
-  pub words_are : words ≡ words_of c
-  pub fit : FitAll (row c.verb).parts c.arguments
-  pub apart : IfSome (stored_name c) (NamesNone (inputs c))
 
 -- the inputs that the code holds
 abbrev pub plain : code_input.Input → Input
@@ -70,8 +51,8 @@ IsLine l = (plains l.inputs.items ≡ inputs (asked l.command)) × (option_map (
 
 -- what the words after a verb are parsed as
 abbrev pub Parses : Verb → List (List ℕ) → Result parsed_line.Line Misfit → Type 0
-Parses verb words (Ok l) = Lists (asked l.command) ((row verb).name ∷ words) × IsLine l
-Parses verb words (Err misfit.OtherWords) = (arguments : Arguments (row verb).parts) → Lists (command verb arguments) ((row verb).name ∷ words) → ⊥
+Parses verb words (Ok l) = Asks (asked l.command) ((row verb).name ∷ words) × IsLine l
+Parses verb words (Err misfit.OtherWords) = (arguments : Arguments (row verb).parts) → Asks (command verb arguments) ((row verb).name ∷ words) → ⊥
 Parses verb words (Err misfit.NoMemory) = Unit {0}
 
 -- ---- The files

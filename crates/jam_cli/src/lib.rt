@@ -2,6 +2,7 @@
 #![tactic(auto)]
 
 mod accumulate;
+mod argument;
 mod deliver;
 mod hash;
 mod kept;
@@ -17,6 +18,7 @@ mod verb;
 mod words;
 mod work;
 
+pub use argument::{Misfit, hexadecimal};
 pub use laws::command_laws;
 pub use status::Status;
 pub use top::jam;
