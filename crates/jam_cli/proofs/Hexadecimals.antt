@@ -1,5 +1,5 @@
 -- Words of bytes in hexadecimal.
-use Rattle.std.proofs.Common.{◌≡◌, ◌≢◌, ℕ, List, [], ◌∷◌, refl, sym, ap, ◌∙◌, codes, Ok, Err, Result}
+use Rattle.std.proofs.Common.{◌≡◌, ◌≢◌, ℕ, List, [], ◌∷◌, refl, sym, ap, ◌∙◌, codes, Ok}
 use Rattle.hex.specs.Hex.{decode_of}
 use Rattle.jam_cli.specs.Table.{IsHexadecimal}
 

@@ -12,7 +12,7 @@ use Rattle.jam_cli.specs.declared.verb.Kind.{Kind}
 use Rattle.jam_cli.specs.declared.verb.Kind.TheVariants.{Program, Bytes, State, Batch}
 use Rattle.jam_cli.specs.declared.verb.Verb.{Verb}
 use Rattle.jam_cli.specs.declared.verb.Verb.TheVariants.{Run}
-use Rattle.jam_cli.specs.Table.{Part, reads, stores, number, hexadecimal, row, Argument, Arguments, IsWord, AreWords, Fits, FitAll, Input, Command, command, Asks, inputs, stored_name, NamesNone}
+use Rattle.jam_cli.specs.Table.{Part, reads, stores, number, hexadecimal, row, Argument, Arguments, IsWord, AreWords, Fits, FitAll, Input, command, Asks, inputs, stored_name, NamesNone}
 use Rattle.jam_cli.specs.Command.{format_of, Values, kinds, Work, made, bad_line, work_of}
 use Rattle.jam_cli.specs.Laws.{AskOnce, StoreApart, SpellOnce, RefuseOnce, EntryNamed}
 use Rattle.jam_cli.proofs.Hexadecimals.{same_bytes}

@@ -13,7 +13,7 @@ use Rattle.jam_cli.specs.declared.kept.Kept as kept_file
 use Rattle.jam_cli.specs.declared.kept.Kept.TheVariants as kept
 use Rattle.jam_cli.specs.Table.{Input}
 use Rattle.jam_cli.specs.Command.{File, ValueOf, format_of, kinds, Values, SpellAll, IsSpelled}
-use Rattle.jam_cli.specs.Parts.{plain, inputs_in, Keeps, KeepsWhole, AreFiles, AreKept, IsNone, refused_as, NotAllSpelled}
+use Rattle.jam_cli.specs.Parts.{plain, inputs_in, first_bytes, later, Keeps, KeepsWhole, AreFiles, AreKept, IsNone, refused_as, NotAllSpelled}
 
 head : {k l : Kind} {ks ls : List Kind} → k ∷ ks ≡ l ∷ ls → k ≡ l
 head e = cc
@@ -53,30 +53,31 @@ module _ (fs rest : List code_file.File) (f : code_file.File) (are : fs ≡ f �
       first (g ∷ gs) all = by g gs all.0.input (subst (λ k. Keeps k f.kept g.bytes) kind_is all.0.kept) all.1
 
   pub front_kept : AreKept fs → (bytes : List ℕ) × Keeps kind f.kept bytes
-  front_kept kept = by_first (λ gs. (bytes : List ℕ) × Keeps kind f.kept bytes) (λ g gs input keeps later. (g.bytes, keeps)) kept.0 kept.1
+  front_kept kept = by_first (λ gs. (bytes : List ℕ) × Keeps kind f.kept bytes) (λ g gs input keeps others. (g.bytes, keeps)) kept.0 kept.1
 
   pub rest_kept : AreKept fs → AreKept rest
-  rest_kept kept = by_first (λ gs. AreKept rest) (λ g gs input keeps later. (gs, later)) kept.0 kept.1
+  rest_kept kept = by_first (λ gs. AreKept rest) (λ g gs input keeps others. (gs, others)) kept.0 kept.1
 
   pub front_refused : (refusal : FileRefusal) → ((bytes : List ℕ) → Keeps kind f.kept bytes → IsNone kind bytes refusal)
       → (gs : List File) → AreFiles fs gs → NotAllSpelled (refused_as f.input.word refusal) gs
-  front_refused refusal none = by_first (λ gs. NotAllSpelled (refused_as f.input.word refusal) gs) (λ g gs input keeps later.
+  front_refused refusal none = by_first (λ gs. NotAllSpelled (refused_as f.input.word refusal) gs) (λ g gs input keeps others.
       subst (λ (i : Input). NotAllSpelled (refused_as i.word refusal) (g ∷ gs)) input
       (none_here g gs refusal (subst (λ (i : Input). IsNone i.kind g.bytes refusal) (sym input) (subst (λ k. IsNone k g.bytes refusal) (sym kind_is) (none g.bytes keeps)))))
 
   pub later_refused : (refusal : Refusal) → ((bytes : List ℕ) → Keeps kind f.kept bytes → IsSpelled kind bytes)
       → ((gs : List File) → AreFiles rest gs → NotAllSpelled refusal gs) → (gs : List File) → AreFiles fs gs → NotAllSpelled refusal gs
-  later_refused refusal spelled not = by_first (λ gs. NotAllSpelled refusal gs) (λ g gs input keeps later.
-      none_later g gs refusal (subst (λ (i : Input). IsSpelled i.kind g.bytes) (sym input) (subst (λ k. IsSpelled k g.bytes) (sym kind_is) (spelled g.bytes keeps))) (not gs later))
+  later_refused refusal spelled not = by_first (λ gs. NotAllSpelled refusal gs) (λ g gs input keeps others.
+      none_later g gs refusal (subst (λ (i : Input). IsSpelled i.kind g.bytes) (sym input) (subst (λ k. IsSpelled k g.bytes) (sym kind_is) (spelled g.bytes keeps))) (not gs others))
 
-  pub all_spelled : (Means : ValueOf kind → Type 0) (Mean : Values ks → Type 0)
-      → ((bytes : List ℕ) → Keeps kind f.kept bytes → (value : ValueOf kind) × Means value × Spells (format_of kind) value bytes)
-      → ((gs : List File) → AreFiles rest gs → (values : Values ks) × Mean values × SpellAll ks values gs)
-      → (gs : List File) → AreFiles fs gs → (values : ValueOf kind × Values ks) × (Means values.0 × Mean values.1) × SpellAll (kind ∷ ks) values gs
-  all_spelled Means Mean here others = by_first (λ gs. (values : ValueOf kind × Values ks) × (Means values.0 × Mean values.1) × SpellAll (kind ∷ ks) values gs) (λ g gs input keeps later.
-      let first = here g.bytes keeps in
-      let second = others gs later in
-      ((first.0, second.0), (first.1, second.1), (first.2, second.2)))
+  pub all_spelled : (Tells : List ℕ → Type 0) (value : List ℕ → ValueOf kind) (Tell : List File → Type 0) (values : List File → Values ks)
+      → ((bytes : List ℕ) → Keeps kind f.kept bytes → Tells bytes × Spells (format_of kind) (value bytes) bytes)
+      → ((gs : List File) → AreFiles rest gs → Tell gs × SpellAll ks (values gs) gs)
+      → (gs : List File) → AreFiles fs gs → (Tells (first_bytes gs) × Tell (later gs)) × SpellAll (kind ∷ ks) (value (first_bytes gs), values (later gs)) gs
+  all_spelled Tells value Tell values here others =
+      by_first (λ gs. (Tells (first_bytes gs) × Tell (later gs)) × SpellAll (kind ∷ ks) (value (first_bytes gs), values (later gs)) gs) (λ g gs input keeps are.
+      let one = here g.bytes keeps in
+      let more = others gs are in
+      ((one.0, more.0), (one.1, more.1)))
 
 -- bytes that are kept as a whole are one
 pub same_whole : (k : kept_file.Kept) (a b : List ℕ) → KeepsWhole k a → KeepsWhole k b → a ≡ b

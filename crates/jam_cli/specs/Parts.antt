@@ -100,6 +100,15 @@ inputs_in fs = map (λ (f : code_file.File). plain f.input) fs
 abbrev pub inputs_of : List File → List Input
 inputs_of fs = map (λ (f : File). f.input) fs
 
+-- the bytes of the first of files, and the files after it
+abbrev pub first_bytes : List File → List ℕ
+first_bytes [] = []
+first_bytes (f ∷ fs) = f.bytes
+
+abbrev pub later : List File → List File
+later [] = []
+later (f ∷ fs) = fs
+
 -- where the files are told, these are those of inputs, and hold no more than is read
 abbrev pub AreHeld : Option Files → List Input → List File → Type 0
 AreHeld told is fs = IfSome told (λ files. AllRead (held files is) × (fs ≡ held files is))

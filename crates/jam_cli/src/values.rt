@@ -4,8 +4,8 @@ ghost use Rattle.jam_codec.specs.Format.{Spells};
 ghost use Rattle.blake2b_core.specs.Blake2b as blake2b;
 ghost use Rattle.jam_cli.specs.declared.verb.Kind.{Kind};
 ghost use Rattle.jam_cli.specs.declared.verb.Kind.TheVariants.{Program, Bytes, State, Batch};
-ghost use Rattle.jam_cli.specs.Command.{ValueOf, format_of, kinds, Values, SpellAll};
-ghost use Rattle.jam_cli.specs.Parts.{inputs_in, Keeps, KeepsWhole, AreKept, OfFiles, IsNone, refused_as, NotAllSpelled};
+ghost use Rattle.jam_cli.specs.Command.{File, ValueOf, format_of, kinds, Values, SpellAll};
+ghost use Rattle.jam_cli.specs.Parts.{inputs_in, first_bytes, later, Keeps, KeepsWhole, AreKept, OfFiles, IsNone, refused_as, NotAllSpelled};
 
 use crate::kept::Kept;
 use crate::reads::File;
@@ -77,13 +77,16 @@ impl Spelled for Batch {
 pub trait Content: Drop {
     ghost kind: { Kind };
 
-    /// It stands for the value.
-    ghost Means: { Self → ValueOf kind → Type 0 };
+    /// The value that it stands for, where the file is these bytes.
+    ghost value: { Self → List ℕ → ValueOf kind };
+
+    /// What it says of the bytes.
+    ghost Tells: { Self → List ℕ → Type 0 };
 
     /// What stands for the value of a file that is kept so.
     fn decode(alloc: Global, kept: &Kept) -> Result<Self, FileRefusal>
         requires { (bytes : List ℕ) × Keeps kind kept.now bytes }
-        ensures spelled { IfOk result (λ x. (bytes : List ℕ) → Keeps kind kept.now bytes → (value : ValueOf kind) × Means x value × Spells (format_of kind) value bytes) }
+        ensures spelled { IfOk result (λ x. (bytes : List ℕ) → Keeps kind kept.now bytes → Tells x bytes × Spells (format_of kind) (value x bytes) bytes) }
         ensures refused { IfErr result (λ e. (bytes : List ℕ) → Keeps kind kept.now bytes → IsNone kind bytes e) };
 }
 
@@ -104,7 +107,9 @@ fn whole_bytes(kept: &Kept) -> &[u8]
 impl<T: Spelled> Content for Whole<T> {
     ghost kind = { T.kind };
 
-    ghost Means = { λ x value. T.value x.0 ≡ value };
+    ghost value = { λ x _. T.value x.0 };
+
+    ghost Tells = { λ _ _. Unit {0} };
 
     fn decode(alloc: Global, kept: &Kept) -> Result<Whole<T>, FileRefusal> {
         Ok(Whole(T::decode(alloc, whole_bytes(kept))?))
@@ -118,7 +123,9 @@ pub struct Digest(pub [u8; 32]);
 impl Content for Digest {
     ghost kind = { Bytes };
 
-    ghost Means = { λ d bytes. d.0 ≡ blake2b.digest bytes };
+    ghost value = { λ _ bytes. bytes };
+
+    ghost Tells = { λ d bytes. d.0 ≡ blake2b.digest bytes };
 
     fn decode(_alloc: Global, kept: &Kept) -> Result<Digest, FileRefusal> {
         match kept {
@@ -141,21 +148,27 @@ fn refused_as(word: u8, refusal: FileRefusal) -> Refusal
 pub trait Contents: Drop {
     ghost all_kinds: { List Kind };
 
-    ghost Mean: { Self → Values all_kinds → Type 0 };
+    /// The values that they stand for, where the files are these.
+    ghost values: { Self → List File → Values all_kinds };
+
+    /// What they say of the files.
+    ghost Tell: { Self → List File → Type 0 };
 
     /// What stands for the values that the files spell; or the word of the first that spells none,
     /// and the place.
     fn decode_all(alloc: Global, files: &[File<'_>]) -> Result<Self, Refusal>
         requires kinds { kinds (inputs_in files.now) ≡ all_kinds }
         requires kept { AreKept files.now }
-        ensures spelled { IfOk result (λ all. OfFiles files.now (λ fs. (values : Values all_kinds) × Mean all values × SpellAll all_kinds values fs)) }
+        ensures spelled { IfOk result (λ all. OfFiles files.now (λ fs. Tell all fs × SpellAll all_kinds (values all fs) fs)) }
         ensures refused { IfErr result (λ refusal. OfFiles files.now (λ fs. NotAllSpelled refusal fs)) };
 }
 
 impl Contents for () {
     ghost all_kinds = { [] };
 
-    ghost Mean = { λ _ _. Unit {0} };
+    ghost values = { λ _ _. tt };
+
+    ghost Tell = { λ _ _. Unit {0} };
 
     fn decode_all(_alloc: Global, _files: &[File<'_>]) -> Result<(), Refusal> {
         Ok(())
@@ -165,7 +178,9 @@ impl Contents for () {
 impl<T: Content, R: Contents> Contents for (T, R) {
     ghost all_kinds = { T.kind ∷ R.all_kinds };
 
-    ghost Mean = { λ all values. T.Means all.0 values.0 × R.Mean all.1 values.1 };
+    ghost values = { λ all fs. (T.value all.0 (first_bytes fs), R.values all.1 (later fs)) };
+
+    ghost Tell = { λ all fs. T.Tells all.0 (first_bytes fs) × R.Tell all.1 (later fs) };
 
     fn decode_all(alloc: Global, files: &[File<'_>]) -> Result<(T, R), Refusal> {
         let [first, rest @ ..] = files else {

@@ -21,9 +21,9 @@ pub returns-in_err-others-clause-refused : goal.returns-in_err-others-clause-ref
 returns-in_err-others-clause-refused g c =
     let refused = err_from_is_err_and c.from_residual.result c.from_residual.ensures.1 in
     rw (refused.1, refused.2) (later_refused c.args.files.now _ c.first-item.result (first_file c.args.files.now c.first-item.result c.in-len1-up.len_at_least c.first-item.is)
-    g.T.Content.kind g.R.Contents.all_kinds c.requires.kinds c.in_err-others.field-0.0 (λ bytes keeps. let made = c.in-Ok.ensures.spelled bytes keeps in (made.0, made.2)) c.in_err-others.ensures.refused)
+    g.T.Content.kind g.R.Contents.all_kinds c.requires.kinds c.in_err-others.field-0.0 (λ bytes keeps. (_, (c.in-Ok.ensures.spelled bytes keeps).1)) c.in_err-others.ensures.refused)
 
 pub returns-clause-spelled : goal.returns-clause-spelled
 returns-clause-spelled g c =
     all_spelled c.args.files.now _ c.first-item.result (first_file c.args.files.now c.first-item.result c.in-len1-up.len_at_least c.first-item.is)
-    g.T.Content.kind g.R.Contents.all_kinds c.requires.kinds (g.T.Content.Means c.in-Ok.value) (g.R.Contents.Mean c.in_ok-others.others) c.in-Ok.ensures.spelled c.in_ok-others.ensures.spelled
+    g.T.Content.kind g.R.Contents.all_kinds c.requires.kinds (g.T.Content.Tells c.in-Ok.value) (g.T.Content.value c.in-Ok.value) (g.R.Contents.Tell c.in_ok-others.others) (g.R.Contents.values c.in_ok-others.others) c.in-Ok.ensures.spelled c.in_ok-others.ensures.spelled
