@@ -3,6 +3,7 @@ ghost use Rattle.std.specs.Prelude.{◌≡◌, Some};
 ghost use Rattle.jam.specs.Report.{exit_code, status_text};
 
 use jam_cli::Status;
+use pvm_asm::kind_text;
 use std::fmt;
 
 /// The exit status of the program, other for each cause.
@@ -16,6 +17,7 @@ pub fn status_code(status: Status) -> u8
         Status::ReadFault(_) => 3,
         Status::TooLong(_) => 4,
         Status::Refused { .. } => 5,
+        Status::BadLine { .. } => 6,
         Status::SinkFault => 7,
         Status::StoreFault => 8,
     }
@@ -36,6 +38,7 @@ impl fmt::Display for Report {
             Status::ReadFault(word) => write!(f, "read fault: word {word}"),
             Status::TooLong(word) => write!(f, "too long: word {word}"),
             Status::Refused { word, place } => write!(f, "refused: word {word}, byte {place}"),
+            Status::BadLine { line, kind } => write!(f, "line {line}: {}", kind_text(kind)),
             Status::SinkFault => write!(f, "output fault"),
             Status::StoreFault => write!(f, "store fault"),
         }

@@ -7,14 +7,16 @@ use Rattle.std.specs.Cmp.Lexicographic.{slice_cmp, nat_list_cmp_total}
 use Rattle.std.specs.FinMap as fin
 use Rattle.std.specs.FinMap.{nat_cmp-IsAntisymmetric, slice_cmp-IsAntisymmetric}
 use Rattle.jam_outside.specs.Files.{Files, content}
-use Rattle.jam_outside.specs.Causes.{VaultState, SinkState, Raised, counted_where, Appends, AppendsPrefix}
+use Rattle.jam_outside.specs.Causes.{VaultState, SinkState, Raised, counted_where, AppendsPrefix}
+use Rattle.pvm_asm.specs.declared.kind.AsmKind.{AsmKind}
 use Rattle.jam_cli.specs.declared.status.Status.{Status}
 use Rattle.jam_cli.specs.declared.status.Status.TheVariants as status
 use Rattle.jam_cli.specs.declared.refusal.Refusal.{Refusal}
-use Rattle.jam_cli.specs.declared.refusal.Refusal.TheVariants.{NoMemory, BadWords, ReadFault, TooLong, NotSpelled, SinkFault, StoreFault}
+use Rattle.jam_cli.specs.declared.refusal.Refusal.TheVariants.{NoMemory, BadWords, ReadFault, TooLong, NotSpelled, BadLine, SinkFault, StoreFault}
 use Rattle.jam_cli.specs.Table.{Command, Asks, Input, inputs, stored_name, NamesNone}
-use Rattle.jam_cli.specs.Command.{File, held, kinds, Values, SpellAll, Work, work}
-use Rattle.jam_cli.specs.Ending.{Call, AllRead, FirstTooLong, FirstRefused, Gives, PrintedNothing, PrintedAll, PrintedPrefix, KeepsFiles, StoredAll, with_entry, IsReadFault, IsTooLong, IsRefused, DoneMeans, BadWordsMeans, BadWordsComes, ReadFaultMeans, TooLongMeans, TooLongComes, RefusedMeans, RefusedComes, SinkFaultMeans, StoreFaultMeans, NoMemoryMeans, SilentMeans, OthersKeepFiles, AllKept, InputsKept, CountsFaults, KeepsNames, CountsStores, ServedIsDone}
+use Rattle.jam_cli.specs.Command.{File, held, kinds, Values, SpellAll, Product, Work, made, bad_line, work}
+use Rattle.jam_cli.specs.Ending.{Call, AllRead, FirstTooLong, FirstRefused, Gives, Works, Produces, PrintedNothing, PrintedAll, PrintedPrefix, KeepsFiles, StoredAll, with_entry, IsReadFault, IsTooLong, IsRefused, IsBadLine, DoneMeans, BadWordsMeans, BadWordsComes, ReadFaultMeans, TooLongMeans, TooLongComes, RefusedMeans, RefusedComes, BadLineMeans, BadLineComes, SinkFaultMeans, StoreFaultMeans, NoMemoryMeans, SilentMeans, OthersKeepFiles, AllKept, InputsKept, CountsFaults, KeepsNames, CountsStores, ServedIsDone}
+use Rattle.jam_cli.specs.Laws.{SpellOnce}
 use Rattle.jam_cli.specs.Parts.{Makes, Untouched, PrintsAll, Ends, CallEnds, status_of, entry_stored, name_in}
 use Rattle.jam_cli.proofs.Once.{once, refuse_once}
 use Rattle.jam_cli.proofs.Carried.{follows}
@@ -71,31 +73,28 @@ gives-not_refused files c d words word place p q values g r =
 
 -- ---- What a command makes, as it is told
 
-abbrev pub Known : Command → Files → Work → Type 0
-Known c files w = (values : Values (kinds (inputs c))) × Gives files c values × (w ≡ work c values)
+known-all : (c : Command) (k : Call) (files : Files) (w : Product) → PrintsAll k w → Produces files c w → PrintedAll k files c
+known-all c k files w prints known = (w, known, prints.0)
 
-known-all : (c : Command) (k : Call) (files : Files) (w : Work) → PrintsAll k w → Known c files w → PrintedAll k files c
-known-all c k files w prints (values, g, is) = (values, g, subst (λ (u : Work). Appends k.sink.taken k.sink_after.taken u.printed) is prints.0)
-
-known-prefix : (c : Command) (k : Call) (files : Files) (w : Work) → AppendsPrefix k.sink.taken k.sink_after.taken w.printed → Known c files w → PrintedPrefix k files c
-known-prefix c k files w prints (values, g, is) = (values, g, subst (λ (u : Work). AppendsPrefix k.sink.taken k.sink_after.taken u.printed) is prints)
+known-prefix : (c : Command) (k : Call) (files : Files) (w : Product) → AppendsPrefix k.sink.taken k.sink_after.taken w.printed → Produces files c w → PrintedPrefix k files c
+known-prefix c k files w prints known = (w, known, prints)
 
 -- the files after a store
 stored_files : (entry : Option (List ℕ × List ℕ)) (v : VaultState) (files : Files) → v.files ≡ Some files → (entry_stored entry v).files ≡ Some (with_entry entry files)
 stored_files None v files told = told
 stored_files (Some e) v files told = ap (option_map (λ (held : Files). fin.insert held e.0 e.1)) told
 
-known-stored : (c : Command) (k : Call) (files : Files) (w : Work) → k.vault.files ≡ Some files → k.vault_after ≡ entry_stored w.entry k.vault → Known c files w → StoredAll k files c
-known-stored c k files w told after (values, g, is) =
-    (values, g, ap (λ (v : VaultState). v.files) after ∙ stored_files w.entry k.vault files told ∙ ap (λ (u : Work). Some (with_entry u.entry files)) is)
+known-stored : (c : Command) (k : Call) (files : Files) (w : Product) → k.vault.files ≡ Some files → k.vault_after ≡ entry_stored w.entry k.vault → Produces files c w → StoredAll k files c
+known-stored c k files w told after known =
+    (w, known, ap (λ (v : VaultState). v.files) after ∙ stored_files w.entry k.vault files told)
 
 -- ---- Each status
 
 pub done_means : (r : Result (Unit {0}) Refusal) (words : Words) (k : Call) → CallEnds r words k → DoneMeans (status_of r) words k
-done_means (Ok x) words k (c, asks, (w, made, prints, after)) is = (
+done_means (Ok x) words k (c, asks, (w, makes, prints, after)) is = (
   c,
   asks,
-  wherever k.vault.files _ (λ files told. let known = at_told k.vault.files files (λ files. Known c files w) told made.gives in
+  wherever k.vault.files _ (λ files told. let known = at_told k.vault.files files (λ files. Produces files c w) told makes.gives in
       (known-all c k files w prints known, known-stored c k files w told after known)),
 )
 done_means (Err NoMemory) words k e is = absurd (cc is)
@@ -103,6 +102,7 @@ done_means (Err BadWords) words k e is = absurd (cc is)
 done_means (Err (ReadFault w)) words k e is = absurd (cc is)
 done_means (Err (TooLong w)) words k e is = absurd (cc is)
 done_means (Err (NotSpelled w place)) words k e is = absurd (cc is)
+done_means (Err (BadLine line kind)) words k e is = absurd (cc is)
 done_means (Err SinkFault) words k e is = absurd (cc is)
 done_means (Err StoreFault) words k e is = absurd (cc is)
 
@@ -113,6 +113,7 @@ bad_words_means (Err NoMemory) words k e is = absurd (cc is)
 bad_words_means (Err (ReadFault w)) words k e is = absurd (cc is)
 bad_words_means (Err (TooLong w)) words k e is = absurd (cc is)
 bad_words_means (Err (NotSpelled w place)) words k e is = absurd (cc is)
+bad_words_means (Err (BadLine line kind)) words k e is = absurd (cc is)
 bad_words_means (Err SinkFault) words k e is = absurd (cc is)
 bad_words_means (Err StoreFault) words k e is = absurd (cc is)
 
@@ -123,6 +124,7 @@ bad_words_comes (Ok x) words k e none = absurd (none e.0 e.1)
 bad_words_comes (Err (ReadFault w)) words k e none = absurd (none e.0 e.1)
 bad_words_comes (Err (TooLong w)) words k e none = absurd (none e.0 e.1)
 bad_words_comes (Err (NotSpelled w place)) words k e none = absurd (none e.0 e.1)
+bad_words_comes (Err (BadLine line kind)) words k e none = absurd (none e.0 e.1)
 bad_words_comes (Err SinkFault) words k e none = absurd (none e.0 e.1)
 bad_words_comes (Err StoreFault) words k e none = absurd (none e.0 e.1)
 
@@ -135,6 +137,7 @@ read_fault_means (Err NoMemory) words k e word is = absurd (cc is)
 read_fault_means (Err BadWords) words k e word is = absurd (cc is)
 read_fault_means (Err (TooLong w)) words k e word is = absurd (cc is)
 read_fault_means (Err (NotSpelled w place)) words k e word is = absurd (cc is)
+read_fault_means (Err (BadLine line kind)) words k e word is = absurd (cc is)
 read_fault_means (Err SinkFault) words k e word is = absurd (cc is)
 read_fault_means (Err StoreFault) words k e word is = absurd (cc is)
 
@@ -147,19 +150,20 @@ too_long_means (Err NoMemory) words k e word is = absurd (cc is)
 too_long_means (Err BadWords) words k e word is = absurd (cc is)
 too_long_means (Err (ReadFault w)) words k e word is = absurd (cc is)
 too_long_means (Err (NotSpelled w place)) words k e word is = absurd (cc is)
+too_long_means (Err (BadLine line kind)) words k e word is = absurd (cc is)
 too_long_means (Err SinkFault) words k e word is = absurd (cc is)
 too_long_means (Err StoreFault) words k e word is = absurd (cc is)
 
 -- a command that gave a text has no file that is too long or refused
-given-not_long : (c : Command) (words : Words) (k : Call) (w : Work) (end : Status) → Asks c words → Makes c k.vault w
+given-not_long : (c : Command) (words : Words) (k : Call) (w : Product) (end : Status) → Asks c words → Makes c k.vault w
     → IfSome k.vault.files (λ files. (d : Command) (word : ℕ) → Asks d words → FirstTooLong (held files (inputs d)) word → end ≡ status.TooLong word)
-given-not_long c words k w end asks made =
-    follows k.vault.files (λ files. Known c files w) _ (λ files known d word other there. absurd (gives-not_long files c d words word asks other known.0 known.1 there)) made.gives
+given-not_long c words k w end asks makes =
+    follows k.vault.files (λ files. Produces files c w) _ (λ files known d word other there. absurd (gives-not_long files c d words word asks other known.0 known.1 there)) makes.gives
 
-given-not_refused : (c : Command) (words : Words) (k : Call) (w : Work) (end : Status) → Asks c words → Makes c k.vault w
+given-not_refused : (c : Command) (words : Words) (k : Call) (w : Product) (end : Status) → Asks c words → Makes c k.vault w
     → IfSome k.vault.files (λ files. (d : Command) (word place : ℕ) → Asks d words → AllRead (held files (inputs d)) → FirstRefused (held files (inputs d)) word place → end ≡ status.Refused word place)
-given-not_refused c words k w end asks made =
-    follows k.vault.files (λ files. Known c files w) _ (λ files known d word place other read there. absurd (gives-not_refused files c d words word place asks other known.0 known.1 there)) made.gives
+given-not_refused c words k w end asks makes =
+    follows k.vault.files (λ files. Produces files c w) _ (λ files known d word place other read there. absurd (gives-not_refused files c d words word place asks other known.0 known.1 there)) makes.gives
 
 pub too_long_comes : (r : Result (Unit {0}) Refusal) (words : Words) (k : Call) → CallEnds r words k → TooLongComes (status_of r) words k
 too_long_comes (Err (TooLong w)) words k e through =
@@ -170,6 +174,8 @@ too_long_comes (Err BadWords) words k e through = wherever k.vault.files _ (λ f
 too_long_comes (Err (NotSpelled w place)) words k e through =
     follows k.vault.files (λ files. AllRead (held files (inputs e.0)) × FirstRefused (held files (inputs e.0)) w place) _ (λ files both d word asks there.
     absurd (read-not_long (held files (inputs d)) word (its_own (λ c. AllRead (held files (inputs c))) e.0 d words e.1 asks both.0) there)) e.2.0.first
+too_long_comes (Err (BadLine line kind)) words k (c, asks, ends) through =
+    follows k.vault.files (λ files. Works files c (bad_line line kind)) _ (λ files known d word other there. absurd (gives-not_long files c d words word asks other known.0 known.1 there)) ends.0.files
 too_long_comes (Err SinkFault) words k (c, asks, ends) through = given-not_long c words k ends.0 _ asks ends.1
 too_long_comes (Err StoreFault) words k (c, asks, ends) through = given-not_long c words k ends.0 _ asks ends.1
 too_long_comes (Err NoMemory) words k e through = absurd through
@@ -185,6 +191,7 @@ refused_means (Err NoMemory) words k e word place is = absurd (cc is)
 refused_means (Err BadWords) words k e word place is = absurd (cc is)
 refused_means (Err (ReadFault w)) words k e word place is = absurd (cc is)
 refused_means (Err (TooLong w)) words k e word place is = absurd (cc is)
+refused_means (Err (BadLine line kind)) words k e word place is = absurd (cc is)
 refused_means (Err SinkFault) words k e word place is = absurd (cc is)
 refused_means (Err StoreFault) words k e word place is = absurd (cc is)
 
@@ -198,30 +205,83 @@ refused_comes (Err BadWords) words k e through = wherever k.vault.files _ (λ fi
 refused_comes (Err (TooLong w)) words k e through =
     follows k.vault.files (λ files. FirstTooLong (held files (inputs e.0)) w) _ (λ files long d word place asks read there.
     absurd (read-not_long (held files (inputs d)) w read (its_own (λ c. FirstTooLong (held files (inputs c)) w) e.0 d words e.1 asks long))) e.2.0.first
+refused_comes (Err (BadLine line kind)) words k (c, asks, ends) through =
+    follows k.vault.files (λ files. Works files c (bad_line line kind)) _ (λ files known d word place other read there. absurd (gives-not_refused files c d words word place asks other known.0 known.1 there)) ends.0.files
 refused_comes (Err SinkFault) words k (c, asks, ends) through = given-not_refused c words k ends.0 _ asks ends.1
 refused_comes (Err StoreFault) words k (c, asks, ends) through = given-not_refused c words k ends.0 _ asks ends.1
 refused_comes (Err NoMemory) words k e through = absurd through
 refused_comes (Err (ReadFault w)) words k e through = absurd through
 
+-- the work on the files is one
+one_work : SpellOnce → (files : Files) (c d : Command) (words : Words) (w x : Work) → Asks c words → Asks d words → Works files c w → Works files d x → w ≡ x
+one_work one files c d words w x p q a b =
+    let own : Works files c x = its_own (λ e. Works files e x) d c words q p b in
+    sym a.2 ∙ ap (work c) (one (kinds (inputs c)) a.0 own.0 (held files (inputs c)) a.1.1 own.1.1) ∙ own.2
+
+no_line : SpellOnce → (files : Files) (c d : Command) (words : Words) (p : Product) (line : ℕ) (kind : AsmKind) → Asks c words → Asks d words → Produces files c p → Works files d (bad_line line kind) → ⊥
+no_line one files c d words p line kind asks other here there =
+    let same : made p ≡ bad_line line kind = one_work one files c d words (made p) (bad_line line kind) asks other here there in
+    cc same
+
+same_line : (l m : ℕ) (a b : AsmKind) → bad_line l a ≡ bad_line m b → status.BadLine l a ≡ status.BadLine m b
+same_line l m a b e = cc e
+
+pub bad_line_means : (r : Result (Unit {0}) Refusal) (words : Words) (k : Call) → CallEnds r words k → BadLineMeans (status_of r) words k
+bad_line_means (Err (BadLine l a)) words k e line kind is =
+    let lines : l ≡ line = cc is in
+    let kinds : a ≡ kind = cc is in
+    (e.0, e.1, subst (λ m. IsBadLine e.0 k m kind) lines (subst (λ b. IsBadLine e.0 k l b) kinds e.2.0))
+bad_line_means (Ok x) words k e line kind is = absurd (cc is)
+bad_line_means (Err NoMemory) words k e line kind is = absurd (cc is)
+bad_line_means (Err BadWords) words k e line kind is = absurd (cc is)
+bad_line_means (Err (ReadFault w)) words k e line kind is = absurd (cc is)
+bad_line_means (Err (TooLong w)) words k e line kind is = absurd (cc is)
+bad_line_means (Err (NotSpelled w place)) words k e line kind is = absurd (cc is)
+bad_line_means (Err SinkFault) words k e line kind is = absurd (cc is)
+bad_line_means (Err StoreFault) words k e line kind is = absurd (cc is)
+
+given-no_line : SpellOnce → (c : Command) (words : Words) (k : Call) (w : Product) (end : Status) → Asks c words → Makes c k.vault w
+    → IfSome k.vault.files (λ files. (d : Command) (line : ℕ) (kind : AsmKind) → Asks d words → Works files d (bad_line line kind) → end ≡ status.BadLine line kind)
+given-no_line one c words k w end asks makes =
+    follows k.vault.files (λ files. Produces files c w) _ (λ files known d line kind other there. absurd (no_line one files c d words w line kind asks other known there)) makes.gives
+
+pub bad_line_comes : SpellOnce → (r : Result (Unit {0}) Refusal) (words : Words) (k : Call) → CallEnds r words k → BadLineComes (status_of r) words k
+bad_line_comes one (Err (BadLine l a)) words k (c, asks, ends) through =
+    follows k.vault.files (λ files. Works files c (bad_line l a)) _ (λ files known d line kind other there.
+    same_line l line a kind (one_work one files c d words (bad_line l a) (bad_line line kind) asks other known there)) ends.0.files
+bad_line_comes one (Ok x) words k (c, asks, ends) through = given-no_line one c words k ends.0 _ asks ends.1
+bad_line_comes one (Err BadWords) words k e through = wherever k.vault.files _ (λ files told d line kind asks there. absurd (e.0 d asks))
+bad_line_comes one (Err (TooLong w)) words k (c, asks, ends) through =
+    follows k.vault.files (λ files. FirstTooLong (held files (inputs c)) w) _ (λ files long d line kind other there.
+    absurd (gives-not_long files d c words w other asks there.0 there.1 long)) ends.0.first
+bad_line_comes one (Err (NotSpelled w p)) words k (c, asks, ends) through =
+    follows k.vault.files (λ files. AllRead (held files (inputs c)) × FirstRefused (held files (inputs c)) w p) _ (λ files both d line kind other there.
+    absurd (gives-not_refused files d c words w p other asks there.0 there.1 both.1)) ends.0.first
+bad_line_comes one (Err SinkFault) words k (c, asks, ends) through = given-no_line one c words k ends.0 _ asks ends.1
+bad_line_comes one (Err StoreFault) words k (c, asks, ends) through = given-no_line one c words k ends.0 _ asks ends.1
+bad_line_comes one (Err NoMemory) words k e through = absurd through
+bad_line_comes one (Err (ReadFault w)) words k e through = absurd through
+
 pub sink_fault_means : (r : Result (Unit {0}) Refusal) (words : Words) (k : Call) → CallEnds r words k → SinkFaultMeans (status_of r) words k
-sink_fault_means (Err SinkFault) words k (c, asks, (w, made, prints, raised, kept)) is =
-    (c, asks, record { raised = raised; printed = follows k.vault.files (λ files. Known c files w) _ (λ files known. known-prefix c k files w prints known) made.gives })
+sink_fault_means (Err SinkFault) words k (c, asks, (w, makes, prints, raised, kept)) is =
+    (c, asks, record { raised = raised; printed = follows k.vault.files (λ files. Produces files c w) _ (λ files known. known-prefix c k files w prints known) makes.gives })
 sink_fault_means (Ok x) words k e is = absurd (cc is)
 sink_fault_means (Err NoMemory) words k e is = absurd (cc is)
 sink_fault_means (Err BadWords) words k e is = absurd (cc is)
 sink_fault_means (Err (ReadFault w)) words k e is = absurd (cc is)
 sink_fault_means (Err (TooLong w)) words k e is = absurd (cc is)
 sink_fault_means (Err (NotSpelled w place)) words k e is = absurd (cc is)
+sink_fault_means (Err (BadLine line kind)) words k e is = absurd (cc is)
 sink_fault_means (Err StoreFault) words k e is = absurd (cc is)
 
 pub store_fault_means : (r : Result (Unit {0}) Refusal) (words : Words) (k : Call) → CallEnds r words k → StoreFaultMeans (status_of r) words k
-store_fault_means (Err StoreFault) words k (c, asks, (w, made, prints, (name, named, after))) is = (
+store_fault_means (Err StoreFault) words k (c, asks, (w, makes, prints, (name, named, after))) is = (
   c,
   asks,
   record {
     raised = ap (λ (v : VaultState). v.store_faults) after;
-    name = sym made.named ∙ named ∙ ap (λ (v : VaultState). Some v.store_failed) (sym after);
-    printed = follows k.vault.files (λ files. Known c files w) _ (λ files known. known-all c k files w prints known) made.gives;
+    name = sym makes.named ∙ named ∙ ap (λ (v : VaultState). Some v.store_failed) (sym after);
+    printed = follows k.vault.files (λ files. Produces files c w) _ (λ files known. known-all c k files w prints known) makes.gives;
   },
 )
 store_fault_means (Ok x) words k e is = absurd (cc is)
@@ -230,6 +290,7 @@ store_fault_means (Err BadWords) words k e is = absurd (cc is)
 store_fault_means (Err (ReadFault w)) words k e is = absurd (cc is)
 store_fault_means (Err (TooLong w)) words k e is = absurd (cc is)
 store_fault_means (Err (NotSpelled w place)) words k e is = absurd (cc is)
+store_fault_means (Err (BadLine line kind)) words k e is = absurd (cc is)
 store_fault_means (Err SinkFault) words k e is = absurd (cc is)
 
 -- where memory runs out before anything is printed, or after
@@ -244,7 +305,7 @@ kept k same = ap (λ (v : VaultState). v.files) same.0
 
 some_printed : (words : Words) (k : Call) (c : Command) → Asks c words → Ends (Err NoMemory) c k → SomePrinted words k
 some_printed words k c asks (inl same) = inl (quiet k same)
-some_printed words k c asks (inr (w, made, prints, after)) = inr (c, asks, follows k.vault.files (λ files. Known c files w) _ (λ files known. known-prefix c k files w prints.0 known) made.gives)
+some_printed words k c asks (inr (w, makes, prints, after)) = inr (c, asks, follows k.vault.files (λ files. Produces files c w) _ (λ files known. known-prefix c k files w prints.0 known) makes.gives)
 
 pub no_memory_means : (r : Result (Unit {0}) Refusal) (words : Words) (k : Call) → CallEnds r words k → NoMemoryMeans (status_of r) words k
 no_memory_means (Err NoMemory) words k (inl same) is = inl (quiet k same)
@@ -254,6 +315,7 @@ no_memory_means (Err BadWords) words k e is = absurd (cc is)
 no_memory_means (Err (ReadFault w)) words k e is = absurd (cc is)
 no_memory_means (Err (TooLong w)) words k e is = absurd (cc is)
 no_memory_means (Err (NotSpelled w place)) words k e is = absurd (cc is)
+no_memory_means (Err (BadLine line kind)) words k e is = absurd (cc is)
 no_memory_means (Err SinkFault) words k e is = absurd (cc is)
 no_memory_means (Err StoreFault) words k e is = absurd (cc is)
 
@@ -264,13 +326,14 @@ silent_means (Err (TooLong w)) words k e is = quiet k e.2.1
 silent_means (Err (NotSpelled w place)) words k e is = quiet k e.2.1
 silent_means (Ok x) words k e is = absurd is
 silent_means (Err NoMemory) words k e is = absurd is
+silent_means (Err (BadLine line kind)) words k e is = quiet k e.2.1
 silent_means (Err SinkFault) words k e is = absurd is
 silent_means (Err StoreFault) words k e is = absurd is
 
 short_kept : (k : Call) (c : Command) → Ends (Err NoMemory) c k → KeepsFiles k
 short_kept k c (inl same) = kept k same
-short_kept k c (inr (w, made, prints, inl after)) = ap (λ (v : VaultState). v.files) after
-short_kept k c (inr (w, made, prints, inr after)) = ap (λ (v : VaultState). v.files) after
+short_kept k c (inr (w, makes, prints, inl after)) = ap (λ (v : VaultState). v.files) after
+short_kept k c (inr (w, makes, prints, inr after)) = ap (λ (v : VaultState). v.files) after
 
 pub others_keep_files : (r : Result (Unit {0}) Refusal) (words : Words) (k : Call) → CallEnds r words k → OthersKeepFiles (status_of r) k
 others_keep_files (Ok x) words k e other = absurd (other refl)
@@ -280,21 +343,25 @@ others_keep_files (Err BadWords) words k e other = kept k e.1
 others_keep_files (Err (ReadFault w)) words k e other = ap (λ (v : VaultState). v.files) e.2.1
 others_keep_files (Err (TooLong w)) words k e other = kept k e.2.1
 others_keep_files (Err (NotSpelled w place)) words k e other = kept k e.2.1
-others_keep_files (Err SinkFault) words k (c, asks, (w, made, prints, raised, after)) other = ap (λ (v : VaultState). v.files) after
-others_keep_files (Err StoreFault) words k (c, asks, (w, made, prints, (name, named, after))) other = ap (λ (v : VaultState). v.files) after
+others_keep_files (Err (BadLine line kind)) words k e other = kept k e.2.1
+others_keep_files (Err SinkFault) words k (c, asks, (w, makes, prints, raised, after)) other = ap (λ (v : VaultState). v.files) after
+others_keep_files (Err StoreFault) words k (c, asks, (w, makes, prints, (name, named, after))) other = ap (λ (v : VaultState). v.files) after
 
 -- a count is not raised where nothing failed
-pub served_is_done : (r : Result (Unit {0}) Refusal) (words : Words) (k : Call) → CallEnds r words k → ServedIsDone (status_of r) words k
-served_is_done (Ok x) words k e served = inl refl
-served_is_done (Err NoMemory) words k e served = inr refl
-served_is_done (Err BadWords) words k e served = absurd (e.0 served.command served.asks)
-served_is_done (Err (ReadFault w)) words k e served = absurd (served.reads e.2.0.raised)
-served_is_done (Err (TooLong w)) words k e served =
+pub served_is_done : SpellOnce → (r : Result (Unit {0}) Refusal) (words : Words) (k : Call) → CallEnds r words k → ServedIsDone (status_of r) words k
+served_is_done one (Ok x) words k e served = inl refl
+served_is_done one (Err NoMemory) words k e served = inr refl
+served_is_done one (Err BadWords) words k e served = absurd (e.0 served.command served.asks)
+served_is_done one (Err (ReadFault w)) words k e served = absurd (served.reads e.2.0.raised)
+served_is_done one (Err (TooLong w)) words k e served =
     absurd (gives-not_long served.files served.command e.0 words w served.asks e.1 served.values served.gives (at_told k.vault.files served.files (λ files. FirstTooLong (held files (inputs e.0)) w) served.told e.2.0.first))
-served_is_done (Err (NotSpelled w p)) words k e served =
+served_is_done one (Err (NotSpelled w p)) words k e served =
     absurd (gives-not_refused served.files served.command e.0 words w p served.asks e.1 served.values served.gives (at_told k.vault.files served.files (λ files. AllRead (held files (inputs e.0)) × FirstRefused (held files (inputs e.0)) w p) served.told e.2.0.first).1)
-served_is_done (Err SinkFault) words k (c, asks, (w, made, prints, raised, after)) served = absurd (served.puts raised)
-served_is_done (Err StoreFault) words k (c, asks, (w, made, prints, (name, named, after))) served = absurd (served.stores (ap (λ (v : VaultState). v.store_faults) after))
+served_is_done one (Err (BadLine line kind)) words k (c, asks, ends) served =
+    absurd (no_line one served.files served.command c words served.product line kind served.asks asks (served.values, served.gives, served.makes)
+    (at_told k.vault.files served.files (λ files. Works files c (bad_line line kind)) served.told ends.0.files))
+served_is_done one (Err SinkFault) words k (c, asks, (w, makes, prints, raised, after)) served = absurd (served.puts raised)
+served_is_done one (Err StoreFault) words k (c, asks, (w, makes, prints, (name, named, after))) served = absurd (served.stores (ap (λ (v : VaultState). v.store_faults) after))
 
 -- ---- The counts
 
@@ -313,11 +380,11 @@ entry_counts (Some entry) v w e = (ap (λ (u : VaultState). u.read_faults) e, ap
 
 short_counts : (k : Call) (c : Command) → Ends (Err NoMemory) c k → CountsFaults status.NoMemory k
 short_counts k c (inl same) = let all = counts_same k same.0 (faults_of k same) in record { reads = all.reads; puts = all.puts; stores = all.stores }
-short_counts k c (inr (w, made, prints, inl after)) = record { reads = ap (λ (v : VaultState). v.read_faults) after; puts = prints.1; stores = ap (λ (v : VaultState). v.store_faults) after }
-short_counts k c (inr (w, made, prints, inr after)) = record { reads = ap (λ (v : VaultState). v.read_faults) after; puts = prints.1; stores = ap (λ (v : VaultState). v.store_faults) after }
+short_counts k c (inr (w, makes, prints, inl after)) = record { reads = ap (λ (v : VaultState). v.read_faults) after; puts = prints.1; stores = ap (λ (v : VaultState). v.store_faults) after }
+short_counts k c (inr (w, makes, prints, inr after)) = record { reads = ap (λ (v : VaultState). v.read_faults) after; puts = prints.1; stores = ap (λ (v : VaultState). v.store_faults) after }
 
 pub counts_faults : (r : Result (Unit {0}) Refusal) (words : Words) (k : Call) → CallEnds r words k → CountsFaults (status_of r) k
-counts_faults (Ok x) words k (c, asks, (w, made, prints, after)) =
+counts_faults (Ok x) words k (c, asks, (w, makes, prints, after)) =
     let all = entry_counts w.entry k.vault k.vault_after after in
     record { reads = all.0; puts = prints.1; stores = all.1 }
 counts_faults (Err NoMemory) words k (inl same) = record { reads = ap (λ (v : VaultState). v.read_faults) same.0; puts = faults_of k same; stores = ap (λ (v : VaultState). v.store_faults) same.0 }
@@ -326,8 +393,9 @@ counts_faults (Err BadWords) words k e = record { reads = ap (λ (v : VaultState
 counts_faults (Err (ReadFault w)) words k e = record { reads = ap (λ (v : VaultState). v.read_faults) e.2.1; puts = ap (λ (t : SinkState). t.faults) e.2.2; stores = ap (λ (v : VaultState). v.store_faults) e.2.1 }
 counts_faults (Err (TooLong w)) words k e = record { reads = ap (λ (v : VaultState). v.read_faults) e.2.1.0; puts = faults_of k e.2.1; stores = ap (λ (v : VaultState). v.store_faults) e.2.1.0 }
 counts_faults (Err (NotSpelled w p)) words k e = record { reads = ap (λ (v : VaultState). v.read_faults) e.2.1.0; puts = faults_of k e.2.1; stores = ap (λ (v : VaultState). v.store_faults) e.2.1.0 }
-counts_faults (Err SinkFault) words k (c, asks, (w, made, prints, raised, after)) = record { reads = ap (λ (v : VaultState). v.read_faults) after; puts = raised; stores = ap (λ (v : VaultState). v.store_faults) after }
-counts_faults (Err StoreFault) words k (c, asks, (w, made, prints, (name, named, after))) = record { reads = ap (λ (v : VaultState). v.read_faults) after; puts = prints.1; stores = ap (λ (v : VaultState). v.store_faults) after }
+counts_faults (Err (BadLine line kind)) words k e = record { reads = ap (λ (v : VaultState). v.read_faults) e.2.1.0; puts = faults_of k e.2.1; stores = ap (λ (v : VaultState). v.store_faults) e.2.1.0 }
+counts_faults (Err SinkFault) words k (c, asks, (w, makes, prints, raised, after)) = record { reads = ap (λ (v : VaultState). v.read_faults) after; puts = raised; stores = ap (λ (v : VaultState). v.store_faults) after }
+counts_faults (Err StoreFault) words k (c, asks, (w, makes, prints, (name, named, after))) = record { reads = ap (λ (v : VaultState). v.read_faults) after; puts = prints.1; stores = ap (λ (v : VaultState). v.store_faults) after }
 
 -- the names of an outside that is as it was
 names_same : (end : Status) (k : Call) → k.vault_after.failed ≡ k.vault.failed → k.vault_after.failed_place ≡ k.vault.failed_place → k.vault_after.store_failed ≡ k.vault.store_failed → KeepsNames end k
@@ -338,11 +406,11 @@ vault_same end k e = names_same end k (ap (λ (v : VaultState). v.failed) e) (ap
 
 short_names : (k : Call) (c : Command) → Ends (Err NoMemory) c k → KeepsNames status.NoMemory k
 short_names k c (inl same) = vault_same status.NoMemory k same.0
-short_names k c (inr (w, made, prints, inl after)) = vault_same status.NoMemory k after
-short_names k c (inr (w, made, prints, inr after)) = names_same status.NoMemory k (ap (λ (v : VaultState). v.failed) after) (ap (λ (v : VaultState). v.failed_place) after) (ap (λ (v : VaultState). v.store_failed) after)
+short_names k c (inr (w, makes, prints, inl after)) = vault_same status.NoMemory k after
+short_names k c (inr (w, makes, prints, inr after)) = names_same status.NoMemory k (ap (λ (v : VaultState). v.failed) after) (ap (λ (v : VaultState). v.failed_place) after) (ap (λ (v : VaultState). v.store_failed) after)
 
 pub keeps_names : (r : Result (Unit {0}) Refusal) (words : Words) (k : Call) → CallEnds r words k → KeepsNames (status_of r) k
-keeps_names (Ok x) words k (c, asks, (w, made, prints, after)) =
+keeps_names (Ok x) words k (c, asks, (w, makes, prints, after)) =
     let all = entry_counts w.entry k.vault k.vault_after after in
     names_same status.Done k all.2 all.3 all.4
 keeps_names (Err NoMemory) words k (inl same) = vault_same status.NoMemory k same.0
@@ -351,8 +419,9 @@ keeps_names (Err BadWords) words k e = vault_same status.BadWords k e.1.0
 keeps_names (Err (ReadFault w)) words k e = record { read = λ not. absurd (cc not); place = λ not. absurd (cc not); store = λ _. ap (λ (v : VaultState). v.store_failed) e.2.1 }
 keeps_names (Err (TooLong w)) words k e = vault_same (status.TooLong w) k e.2.1.0
 keeps_names (Err (NotSpelled w p)) words k e = vault_same (status.Refused w p) k e.2.1.0
-keeps_names (Err SinkFault) words k (c, asks, (w, made, prints, raised, after)) = vault_same status.SinkFault k after
-keeps_names (Err StoreFault) words k (c, asks, (w, made, prints, (name, named, after))) =
+keeps_names (Err (BadLine line kind)) words k e = vault_same (status.BadLine line kind) k e.2.1.0
+keeps_names (Err SinkFault) words k (c, asks, (w, makes, prints, raised, after)) = vault_same status.SinkFault k after
+keeps_names (Err StoreFault) words k (c, asks, (w, makes, prints, (name, named, after))) =
     record { read = λ _. ap (λ (v : VaultState). v.failed) after; place = λ _. ap (λ (v : VaultState). v.failed_place) after; store = λ not. absurd (cc not) }
 
 abbrev stores_in : VaultState → ℕ
@@ -360,21 +429,22 @@ stores_in v = v.stores
 
 short_stores : (k : Call) (c : Command) → Ends (Err NoMemory) c k → (k.vault_after.stores ≡ k.vault.stores) ⊎ Raised k.vault.stores k.vault_after.stores
 short_stores k c (inl same) = inl (ap stores_in same.0)
-short_stores k c (inr (w, made, prints, inl after)) = inl (ap stores_in after)
-short_stores k c (inr (w, made, prints, inr after)) = inr (ap stores_in after)
+short_stores k c (inr (w, makes, prints, inl after)) = inl (ap stores_in after)
+short_stores k c (inr (w, makes, prints, inr after)) = inr (ap stores_in after)
 
 pub counts_stores : (r : Result (Unit {0}) Refusal) (words : Words) (k : Call) → CallEnds r words k → CountsStores (status_of r) words k
-counts_stores (Ok x) words k (c, asks, (w, made, prints, after)) =
+counts_stores (Ok x) words k (c, asks, (w, makes, prints, after)) =
     let all = entry_counts w.entry k.vault k.vault_after after in
-    (c, asks, subst (λ (o : Option (List ℕ)). k.vault_after.stores ≡ counted_where (is_some o) k.vault.stores) made.named all.5)
+    (c, asks, subst (λ (o : Option (List ℕ)). k.vault_after.stores ≡ counted_where (is_some o) k.vault.stores) makes.named all.5)
 counts_stores (Err NoMemory) words k (inl same) = inl (ap stores_in same.0)
 counts_stores (Err NoMemory) words k (inr (c, asks, ends)) = short_stores k c ends
 counts_stores (Err BadWords) words k e = ap stores_in e.1.0
 counts_stores (Err (ReadFault w)) words k e = ap stores_in e.2.1
 counts_stores (Err (TooLong w)) words k e = ap stores_in e.2.1.0
 counts_stores (Err (NotSpelled w p)) words k e = ap stores_in e.2.1.0
-counts_stores (Err SinkFault) words k (c, asks, (w, made, prints, raised, after)) = ap stores_in after
-counts_stores (Err StoreFault) words k (c, asks, (w, made, prints, (name, named, after))) = ap stores_in after
+counts_stores (Err (BadLine line kind)) words k e = ap stores_in e.2.1.0
+counts_stores (Err SinkFault) words k (c, asks, (w, makes, prints, raised, after)) = ap stores_in after
+counts_stores (Err StoreFault) words k (c, asks, (w, makes, prints, (name, named, after))) = ap stores_in after
 
 -- ---- What a command reads
 
@@ -410,10 +480,10 @@ kept_files : (k : Call) (before : Files) → k.vault.files ≡ Some before → K
 kept_files k before told kept c = (before, kept ∙ told, same_content before (inputs c))
 
 pub inputs_kept : (r : Result (Unit {0}) Refusal) (words : Words) (k : Call) → CallEnds r words k → InputsKept words k
-inputs_kept (Ok x) words k (c, asks, (w, made, prints, after)) = wherever k.vault.files _ (λ before told d other. (
+inputs_kept (Ok x) words k (c, asks, (w, makes, prints, after)) = wherever k.vault.files _ (λ before told d other. (
   with_entry w.entry before,
   ap (λ (v : VaultState). v.files) after ∙ stored_files w.entry k.vault before told,
-  its_own (λ e. AllKept before (with_entry w.entry before) (inputs e)) c d words asks other (entry_kept before c words asks w.entry made.named),
+  its_own (λ e. AllKept before (with_entry w.entry before) (inputs e)) c d words asks other (entry_kept before c words asks w.entry makes.named),
 ))
 inputs_kept (Err refusal) words k e = wherever k.vault.files _ (λ before told d other. kept_files k before told (others_keep_files (Err refusal) words k e (not_done refusal)) d)
   where
@@ -423,5 +493,6 @@ inputs_kept (Err refusal) words k e = wherever k.vault.files _ (λ before told d
     not_done (ReadFault w) is = cc is
     not_done (TooLong w) is = cc is
     not_done (NotSpelled w p) is = cc is
+    not_done (BadLine line kind) is = cc is
     not_done SinkFault is = cc is
     not_done StoreFault is = cc is

@@ -1,6 +1,5 @@
 -- The inputs read so far, and the first of a list of inputs at which something holds.
-use Rattle.std.proofs.Common.{◌≡◌, ◌≢◌, ◌⊎◌, inl, inr, ℕ, zero, suc, ◌+◌, ◌<◌, ◌≤◌, List, [], ◌∷◌, ◌++◌, length, take, get_or, refl, sym, ap, ◌∙◌, subst, arith, IfSome, Some, None, Option, Err, Vec}
-use Rattle.std.specs.declared.alloc.Global.{Global}
+use Rattle.std.proofs.Common.{◌≡◌, ◌≢◌, ◌⊎◌, inl, inr, ℕ, zero, suc, ◌+◌, ◌<◌, ◌≤◌, List, [], ◌∷◌, ◌++◌, length, take, get_or, refl, sym, ap, ◌∙◌, subst, arith, IfSome, Some, None, Option, Err}
 use Rattle.std.proofs.lemmas.List.{map-append}
 use Rattle.jam_outside.specs.Files.{Files, content}
 use Rattle.jam_outside.specs.Causes.{VaultState, read_failed, whole_read_leaves}
@@ -9,11 +8,12 @@ use Rattle.jam_outside.specs.declared.whole.ReadRefusal.TheVariants as read
 use Rattle.jam_cli.specs.declared.refusal.Refusal.{Refusal}
 use Rattle.jam_cli.specs.declared.reads.Input as code_input
 use Rattle.jam_cli.specs.declared.reads.File as code_file
+use Rattle.jam_cli.specs.declared.kept.Kept as kept_file
 use Rattle.jam_cli.specs.declared.verb.Kind.TheVariants.{Program}
 use Rattle.jam_cli.specs.Table.{Input, NamesNone}
 use Rattle.jam_cli.specs.Command.{File, held}
 use Rattle.jam_cli.specs.Ending.{limit, WasRead, AllRead, FirstTooLong, FirstNamed, IsInputWord}
-use Rattle.jam_cli.specs.Parts.{plain, plains, plain_file, plain_files, inputs_in, NotRead, EndOf}
+use Rattle.jam_cli.specs.Parts.{plain, plains, inputs_in, Keeps, IsFile, AreFiles, AreHeld, AreRead, NotRead, EndOf}
 
 -- what the code has where no input is
 abbrev pub nothing : code_input.Input
@@ -72,10 +72,6 @@ first_too_long files (y ∷ ys) zero x is all long =
     inl (ap (λ (z : code_input.Input). z.word) (sym is.at), rw (← ap (λ (z : code_input.Input). z.name.now) is.at) long)
 first_too_long files (y ∷ ys) (suc k) x is all long = inr (all.0, first_too_long files ys k x (at_later y ys k x is) all.1 long)
 
--- what is known of the files that were read
-abbrev pub IsReadSoFar : Option Files → List Input → List File → Type 0
-IsReadSoFar told is all = IfSome told (λ files. AllRead (held files is) × (all ≡ held files is))
-
 read_push : (fs : List File) (f : File) → AllRead fs → WasRead f → AllRead (fs ++ (f ∷ []))
 read_push [] f all one = (one, tt)
 read_push (g ∷ fs) f all one = (all.0, read_push fs f all.1 one)
@@ -90,18 +86,32 @@ held_more : (files : Files) (xs : List code_input.Input) (k : ℕ) (x : code_inp
     → held files (plains (take (k + 1) xs)) ≡ held files (plains (take k xs)) ++ (file_of files (plain x) ∷ [])
 held_more files xs k x is = ap (held files) (more xs k x is) ∙ map-append (file_of files) (plains (take k xs)) (plain x ∷ [])
 
+held_push : (told : Option Files) (xs : List code_input.Input) (k : ℕ) (x : code_input.Input) (fs : List File) (bytes : List ℕ) → IsAt xs k x
+    → AreHeld told (plains (take k xs)) fs → length bytes ≤ limit → IfSome told (λ files. bytes ≡ content files x.name.now)
+    → AreHeld told (plains (take (k + 1) xs)) (fs ++ (file_with (plain x) bytes ∷ []))
+held_push None xs k x fs bytes is before fits gives = tt
+held_push (Some files) xs k x fs bytes is before fits gives = (
+  subst AllRead (sym (held_more files xs k x is)) (read_push (held files (plains (take k xs))) (file_of files (plain x)) before.0 (subst (λ (b : List ℕ). length b ≤ limit) gives fits)),
+  ap (λ gs. gs ++ (file_with (plain x) bytes ∷ [])) before.1 ∙ ap (λ (b : List ℕ). held files (plains (take k xs)) ++ (file_with (plain x) b ∷ [])) gives ∙ sym (held_more files xs k x is),
+)
+
+files_push : (fs : List code_file.File) (gs : List File) (f : code_file.File) (g : File) → AreFiles fs gs → IsFile f g → AreFiles (fs ++ (f ∷ [])) (gs ++ (g ∷ []))
+files_push [] [] f g are is = (is, tt)
+files_push [] (h ∷ gs) f g are is = absurd are
+files_push (e ∷ fs) [] f g are is = absurd are
+files_push (e ∷ fs) (h ∷ gs) f g are is = (are.0, files_push fs gs f g are.1 is)
+
 -- one file more
-pub read_more : (told : Option Files) (xs : List code_input.Input) (k : ℕ) (x : code_input.Input) (all : List code_file.File) (f : code_file.File) → IsAt xs k x
-    → IsReadSoFar told (plains (take k xs)) (plain_files all) → f.input ≡ x → length f.bytes.items ≤ limit → IfSome told (λ files. f.bytes.items ≡ content files x.name.now)
-    → IsReadSoFar told (plains (take (k + 1) xs)) (plain_files (all ++ (f ∷ [])))
-read_more None xs k x all f is before same fits gives = tt
-read_more (Some files) xs k x all f is before same fits gives =
-    let one : plain_file f ≡ file_of files (plain x) = ap (λ (i : code_input.Input). file_with (plain i) f.bytes.items) same ∙ ap (file_with (plain x)) gives in
-    let fit : length (content files x.name.now) ≤ limit = subst (λ (b : List ℕ). length b ≤ limit) gives fits in
-    let pushed : plain_files (all ++ (f ∷ [])) ≡ plain_files all ++ (plain_file f ∷ []) = map-append plain_file all (f ∷ []) in (
-      subst AllRead (sym (held_more files xs k x is)) (read_push (held files (plains (take k xs))) (file_of files (plain x)) before.0 fit),
-      pushed ∙ ap (λ fs. fs ++ (plain_file f ∷ [])) before.1 ∙ ap (λ g. held files (plains (take k xs)) ++ (g ∷ [])) one ∙ sym (held_more files xs k x is),
-    )
+pub read_more : (told : Option Files) (xs : List code_input.Input) (k : ℕ) (x : code_input.Input) (all : List code_file.File) (f : code_file.File) (bytes : List ℕ) → IsAt xs k x
+    → AreRead told (plains (take k xs)) all → f.input ≡ x → Keeps x.kind f.kept bytes → length bytes ≤ limit → IfSome told (λ files. bytes ≡ content files x.name.now)
+    → AreRead told (plains (take (k + 1) xs)) (all ++ (f ∷ []))
+read_more told xs k x all f bytes is before same keeps fits gives = record {
+  files = before.files ++ (file_with (plain x) bytes ∷ []);
+  are = files_push all before.files f (file_with (plain x) bytes) before.are
+      (record { input = ap plain (sym same); kept = subst (λ (i : code_input.Input). Keeps i.kind f.kept bytes) (sym same) keeps });
+  inputs = map-append (λ (g : File). g.input) before.files (file_with (plain x) bytes ∷ []) ∙ ap (λ is. is ++ (plain x ∷ [])) before.inputs ∙ sym (more xs k x is);
+  read = held_push told xs k x before.files bytes is before.read fits gives;
+}
 
 pub inputs_more : (xs : List code_input.Input) (k : ℕ) (x : code_input.Input) (all : List code_file.File) (f : code_file.File) → IsAt xs k x → f.input ≡ x
     → inputs_in all ≡ plains (take k xs) → inputs_in (all ++ (f ∷ [])) ≡ plains (take (k + 1) xs)
@@ -114,14 +124,14 @@ named_of : (xs : List code_input.Input) (k : ℕ) (x : code_input.Input) (word :
 named_of xs k x word is (inl first) = first
 named_of xs k x word is (inr none) = absurd (named_at xs k x is none)
 
-too_long_of : (told : Option Files) (xs : List code_input.Input) (k : ℕ) (x : code_input.Input) (all : List File) → IsAt xs k x → IsReadSoFar told (plains (take k xs)) all
+too_long_of : (told : Option Files) (xs : List code_input.Input) (k : ℕ) (x : code_input.Input) (all : List File) → IsAt xs k x → AreHeld told (plains (take k xs)) all
     → IfSome told (λ files. limit < length (content files x.name.now)) → IfSome told (λ files. FirstTooLong (held files (plains xs)) x.word)
 too_long_of None xs k x all is before long = tt
 too_long_of (Some files) xs k x all is before long = first_too_long files xs k x is before.0 long
 
 -- how a read that was refused leaves the vault and ends the reading
 pub ends : (refusal : ReadRefusal) (end : Refusal) (v w : VaultState) (xs : List code_input.Input) (k : ℕ) (x : code_input.Input) (all : List File) → IsAt xs k x
-    → IsReadSoFar v.files (plains (take k xs)) all → w ≡ whole_read_leaves {X = Vec ℕ Global} (Err refusal) v x.name.now w.failed_place
+    → AreHeld v.files (plains (take k xs)) all → w ≡ whole_read_leaves {X = kept_file.Kept} (Err refusal) v x.name.now w.failed_place
     → (refusal ≡ read.ReadFault → w.failed_place ≤ limit)
     → (refusal ≡ read.TooLong → IfSome v.files (λ files. limit < length (content files x.name.now)))
     → EndOf refusal end (plains xs) (plain x) → NotRead end (plains xs) v w

@@ -1,4 +1,3 @@
-pub mod Listed
 pub mod Verbs
 pub mod Once
 pub mod Starts
@@ -6,3 +5,4 @@ pub mod Inputs
 pub mod Spelled
 pub mod Carried
 pub mod Endings
+pub mod Hexadecimals

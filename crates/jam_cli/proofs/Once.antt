@@ -12,18 +12,18 @@ use Rattle.jam_cli.specs.declared.verb.Kind.{Kind}
 use Rattle.jam_cli.specs.declared.verb.Kind.TheVariants.{Program, Bytes, State, Batch}
 use Rattle.jam_cli.specs.declared.verb.Verb.{Verb}
 use Rattle.jam_cli.specs.declared.verb.Verb.TheVariants.{Run}
-use Rattle.jam_cli.specs.Table.{Part, reads, stores, number, row, Argument, Arguments, Fits, FitAll, Input, Command, command, inputs, stored_name, NamesNone}
-use Rattle.jam_cli.specs.Command.{format_of, Values, kinds, work_of}
+use Rattle.jam_cli.specs.Table.{Part, reads, stores, number, hexadecimal, row, Argument, Arguments, IsWord, AreWords, Fits, FitAll, Input, command, Asks, inputs, stored_name, NamesNone}
+use Rattle.jam_cli.specs.Command.{format_of, Values, kinds, Work, made, bad_line, work_of}
 use Rattle.jam_cli.specs.Laws.{AskOnce, StoreApart, SpellOnce, RefuseOnce, EntryNamed}
-use Rattle.jam_cli.specs.Parts.{word_of, words_from, Lists}
-use Rattle.jam_cli.proofs.Listed.{lists_of}
+use Rattle.jam_cli.proofs.Hexadecimals.{same_bytes}
 use Rattle.jam_cli.proofs.Verbs.{name-injective}
 
 -- decimal digits are known to tell numbers below 2 ^ 64 apart
 is_small : Part → Bool
 is_small (reads kind) = true
 is_small stores = true
-is_small (number bound) = ltb bound (2 ^ 64)
+is_small (number least bound) = ltb bound (2 ^ 64)
+is_small (hexadecimal least most) = true
 
 are_small : List Part → Bool
 are_small [] = true
@@ -39,41 +39,35 @@ both_true : (a b : Bool) → (a && b) ≡ true → (a ≡ true) × (b ≡ true)
 both_true true b e = (refl, e)
 both_true false b e = absurd (cc e)
 
-same_argument : (part : Part) → is_small part ≡ true → (a b : Argument part) → Fits part a → Fits part b → word_of part a ≡ word_of part b → a ≡ b
+same_argument : (part : Part) → is_small part ≡ true → (a b : Argument part) → Fits part a → Fits part b → (word : List ℕ) → IsWord part a word → IsWord part b word → a ≡ b
 unfolding is_small
-same_argument (reads kind) ok a b fa fb e = e
-same_argument stores ok a b fa fb e = e
-same_argument (number bound) ok a b fa fb e =
+same_argument (reads kind) ok a b fa fb word p q = sym p ∙ q
+same_argument stores ok a b fa fb word p q = sym p ∙ q
+same_argument (number least bound) ok a b fa fb word p q =
     let below : bound < 2 ^ 64 = ltb-true bound (2 ^ 64) ok in
-    decimal_injective a b (omega (arith, below, fa)) (omega (arith, below, fb)) e
-
-head : {x y : List ℕ} {xs ys : List (List ℕ)} → x ∷ xs ≡ y ∷ ys → x ≡ y
-head e = cc
-
-tail : {x y : List ℕ} {xs ys : List (List ℕ)} → x ∷ xs ≡ y ∷ ys → xs ≡ ys
-tail e = cc
+    decimal_injective a b (omega (arith, below, fa.1)) (omega (arith, below, fb.1)) (sym p ∙ q)
+same_argument (hexadecimal least most) ok a b fa fb word p q = same_bytes a b word p q
 
 pair : {A B : Type 0} (a b : A × B) → a.0 ≡ b.0 → a.1 ≡ b.1 → a ≡ b
 pair a b p q = subst (λ x. a ≡ (x, b.1)) p (subst (λ y. a ≡ (a.0, y)) q refl)
 
-same_arguments : (parts : List Part) → are_small parts ≡ true → (a b : Arguments parts) → FitAll parts a → FitAll parts b → words_from parts a ≡ words_from parts b → a ≡ b
+same_arguments : (parts : List Part) → are_small parts ≡ true → (a b : Arguments parts) → FitAll parts a → FitAll parts b → (words : List (List ℕ)) → AreWords parts a words → AreWords parts b words → a ≡ b
 unfolding are_small
-same_arguments [] ok a b fa fb e = refl
-same_arguments (part ∷ parts) ok a b fa fb e =
+same_arguments [] ok a b fa fb words p q = refl
+same_arguments (part ∷ parts) ok a b fa fb [] p q = absurd p
+same_arguments (part ∷ parts) ok a b fa fb (word ∷ words) p q =
     let oks = both_true (is_small part) (are_small parts) ok in
-    pair a b (same_argument part oks.0 a.0 b.0 fa.0 fb.0 (head e)) (same_arguments parts oks.1 a.1 b.1 fa.1 fb.1 (tail e))
+    pair a b (same_argument part oks.0 a.0 b.0 fa.0 fb.0 word p.0 q.0) (same_arguments parts oks.1 a.1 b.1 fa.1 fb.1 words p.1 q.1)
 
-same_of_verb : (verb : Verb) (words : List (List ℕ)) (a b : Arguments (row verb).parts) → Lists (command verb a) words → Lists (command verb b) words → command verb a ≡ command verb b
-same_of_verb verb words a b p q = ap (command verb) (same_arguments (row verb).parts (small verb) a b p.fit q.fit (tail (sym p.words_are ∙ q.words_are)))
+same_of_verb : (verb : Verb) (word : List ℕ) (words : List (List ℕ)) (a b : Arguments (row verb).parts) → Asks (command verb a) (word ∷ words) → Asks (command verb b) (word ∷ words) → command verb a ≡ command verb b
+same_of_verb verb word words a b p q = ap (command verb) (same_arguments (row verb).parts (small verb) a b p.fit q.fit words p.words_are.1 q.words_are.1)
 
-same_of : (v w : Verb) → v ≡ w → (words : List (List ℕ)) (a : Arguments (row v).parts) (b : Arguments (row w).parts) → Lists (command v a) words → Lists (command w b) words → command v a ≡ command w b
-same_of v w same words a = subst (λ (w : Verb). (b : Arguments (row w).parts) → Lists (command v a) words → Lists (command w b) words → command v a ≡ command w b) same (same_of_verb v words a)
-
-once_listed : (c d : Command) (words : List (List ℕ)) → Lists c words → Lists d words → c ≡ d
-once_listed c d words p q = same_of c.verb d.verb (name-injective c.verb d.verb (head (sym p.words_are ∙ q.words_are))) words c.arguments d.arguments p q
+same_of : (v w : Verb) → v ≡ w → (word : List ℕ) (words : List (List ℕ)) (a : Arguments (row v).parts) (b : Arguments (row w).parts) → Asks (command v a) (word ∷ words) → Asks (command w b) (word ∷ words) → command v a ≡ command w b
+same_of v w same word words a = subst (λ (w : Verb). (b : Arguments (row w).parts) → Asks (command v a) (word ∷ words) → Asks (command w b) (word ∷ words) → command v a ≡ command w b) same (same_of_verb v word words a)
 
 pub once : AskOnce
-once c d words p q = once_listed c d words (lists_of c words p) (lists_of d words q)
+once c d [] p q = absurd p.words_are
+once c d (word ∷ words) p q = same_of c.verb d.verb (name-injective c.verb d.verb (sym p.words_are.0 ∙ q.words_are.0)) word words c.arguments d.arguments p q
 
 none_named : (is : List Input) (name : List ℕ) (i : Input) → NamesNone is name → Contains is i → i.name ≢ name
 none_named [] name i none has = absurd (omega (arith, has.1))
@@ -83,14 +77,18 @@ none_named (j ∷ is) name i none (suc k, some, at) = none_named is name i none.
 pub apart : StoreApart
 apart c words name i asks stored = none_named (inputs c) name i (subst (λ (o : Option (List ℕ)). IfSome o (NamesNone (inputs c))) stored asks.apart)
 
--- an entry has the name of the table: the checker sees it for each verb
+-- what is made has an entry with the name of the table: the checker sees it for each verb
+abbrev IsNamed : Work → Option (List ℕ) → Type 0
+IsNamed (made p) name = option_map (λ (e : List ℕ × List ℕ). e.0) p.entry ≡ name
+IsNamed (bad_line line kind) name = Unit {0}
+
 named_of : (verb : Verb) (arguments : Arguments (row verb).parts) (values : Values (kinds (inputs (command verb arguments))))
-    → option_map (λ (e : List ℕ × List ℕ). e.0) (work_of verb arguments values).entry ≡ stored_name (command verb arguments)
+    → IsNamed (work_of verb arguments values) (stored_name (command verb arguments))
 named_of Run arguments values = refl
 named_of _ arguments values = refl
 
 pub entry_named : EntryNamed
-entry_named c values = named_of c.verb c.arguments values
+entry_named c values p is = subst (λ (w : Work). IsNamed w (stored_name c)) is (named_of c.verb c.arguments values)
 
 -- each kind's files have one value, and files have one list of values
 pub one_of_each : HasOneSpelling program_blob → HasOneSpelling state_format → HasOneSpelling batch_format → (kind : Kind) → HasOneSpelling (format_of kind)

@@ -1,15 +1,19 @@
 -- The first of the files that spells no value, at the front of a list or behind it.
-use Rattle.std.proofs.Common.{◌≡◌, ℕ, ◌-◌, ◌≤◌, List, [], ◌∷◌, length, get_or, take, drop, sym, ap, ◌∙◌, subst, arith, inl, inr, refl}
+use Rattle.std.proofs.Common.{◌≡◌, ◌≢◌, ℕ, ◌-◌, ◌≤◌, List, [], ◌∷◌, length, get_or, take, drop, sym, ap, ◌∙◌, subst, arith, inl, inr, refl}
 use Rattle.std.proofs.lemmas.List.{take_rest}
 use Rattle.jam_codec.specs.Format.{Spells}
 use Rattle.jam_codec.specs.declared.refusal.FileRefusal.{FileRefusal}
 use Rattle.jam_codec.specs.declared.refusal.FileRefusal.TheVariants as codec
 use Rattle.jam_cli.specs.declared.refusal.Refusal.{Refusal}
-use Rattle.jam_cli.specs.declared.refusal.Refusal.TheVariants.{NoMemory, BadWords, ReadFault, TooLong, NotSpelled, SinkFault, StoreFault}
+use Rattle.jam_cli.specs.declared.refusal.Refusal.TheVariants.{NoMemory, BadWords, ReadFault, TooLong, NotSpelled, BadLine, SinkFault, StoreFault}
 use Rattle.jam_cli.specs.declared.verb.Kind.{Kind}
+use Rattle.jam_cli.specs.declared.verb.Kind.TheVariants.{Program, Bytes, State, Batch}
 use Rattle.jam_cli.specs.declared.reads.File as code_file
-use Rattle.jam_cli.specs.Command.{File, ValueOf, format_of, kinds, IsSpelled}
-use Rattle.jam_cli.specs.Parts.{plain_file, plain_files, inputs_in, IsNone, refused_as, NotAllSpelled}
+use Rattle.jam_cli.specs.declared.kept.Kept as kept_file
+use Rattle.jam_cli.specs.declared.kept.Kept.TheVariants as kept
+use Rattle.jam_cli.specs.Table.{Input}
+use Rattle.jam_cli.specs.Command.{File, ValueOf, format_of, kinds, Values, SpellAll, IsSpelled}
+use Rattle.jam_cli.specs.Parts.{plain, inputs_in, first_bytes, later, Keeps, KeepsWhole, AreFiles, AreKept, IsNone, refused_as, NotAllSpelled}
 
 head : {k l : Kind} {ks ls : List Kind} → k ∷ ks ≡ l ∷ ls → k ≡ l
 head e = cc
@@ -24,6 +28,7 @@ none_later f fs (NotSpelled word place) here not = inr (here, not)
 none_later f fs BadWords here not = absurd not
 none_later f fs (ReadFault word) here not = absurd not
 none_later f fs (TooLong word) here not = absurd not
+none_later f fs (BadLine line kind) here not = absurd not
 none_later f fs SinkFault here not = absurd not
 none_later f fs StoreFault here not = absurd not
 
@@ -36,16 +41,52 @@ first_file (g ∷ fs) f some is =
     ap (λ (h : code_file.File). h ∷ fs) (sym same) ∙ ap (λ (hs : List code_file.File). f ∷ hs) (sym rest)
 
 module _ (fs rest : List code_file.File) (f : code_file.File) (are : fs ≡ f ∷ rest) (kind : Kind) (ks : List Kind) (of : kinds (inputs_in fs) ≡ kind ∷ ks) where
-  kind_is : kind ≡ f.input.kind
-  kind_is = head (sym of ∙ ap (λ (gs : List code_file.File). kinds (inputs_in gs)) are)
+  kind_is : f.input.kind ≡ kind
+  kind_is = sym (head (sym of ∙ ap (λ (gs : List code_file.File). kinds (inputs_in gs)) are))
 
-  pub front_refused : (refusal : FileRefusal) (bytes : List ℕ) → bytes ≡ f.bytes.items → IsNone kind bytes refusal → NotAllSpelled (refused_as f.input.word refusal) (plain_files fs)
-  front_refused refusal bytes same none =
-      subst (λ (gs : List code_file.File). NotAllSpelled (refused_as f.input.word refusal) (plain_files gs)) (sym are)
-      (none_here (plain_file f) (plain_files rest) refusal (subst (λ k. IsNone k f.bytes.items refusal) kind_is (subst (λ b. IsNone kind b refusal) same none)))
+  -- what holds of each first file and the later ones holds of all files
+  by_first : (P : List File → Type 0) → ((g : File) (gs : List File) → g.input ≡ plain f.input → Keeps kind f.kept g.bytes → AreFiles rest gs → P (g ∷ gs)) → (gs : List File) → AreFiles fs gs → P gs
+  by_first P by gs all = first gs (subst (λ hs. AreFiles hs gs) are all)
+    where
+      first : (gs : List File) → AreFiles (f ∷ rest) gs → P gs
+      first [] all = absurd all
+      first (g ∷ gs) all = by g gs all.0.input (subst (λ k. Keeps k f.kept g.bytes) kind_is all.0.kept) all.1
 
-  pub later_refused : (refusal : Refusal) (bytes : List ℕ) (value : ValueOf kind) → bytes ≡ f.bytes.items → Spells (format_of kind) value bytes → NotAllSpelled refusal (plain_files rest) → NotAllSpelled refusal (plain_files fs)
-  later_refused refusal bytes value same spells not =
-      let here : IsSpelled kind bytes = (value, spells) in
-      subst (λ (gs : List code_file.File). NotAllSpelled refusal (plain_files gs)) (sym are)
-      (none_later (plain_file f) (plain_files rest) refusal (subst (λ k. IsSpelled k f.bytes.items) kind_is (subst (λ b. IsSpelled kind b) same here)) not)
+  pub front_kept : AreKept fs → (bytes : List ℕ) × Keeps kind f.kept bytes
+  front_kept kept = by_first (λ gs. (bytes : List ℕ) × Keeps kind f.kept bytes) (λ g gs input keeps others. (g.bytes, keeps)) kept.0 kept.1
+
+  pub rest_kept : AreKept fs → AreKept rest
+  rest_kept kept = by_first (λ gs. AreKept rest) (λ g gs input keeps others. (gs, others)) kept.0 kept.1
+
+  pub front_refused : (refusal : FileRefusal) → ((bytes : List ℕ) → Keeps kind f.kept bytes → IsNone kind bytes refusal)
+      → (gs : List File) → AreFiles fs gs → NotAllSpelled (refused_as f.input.word refusal) gs
+  front_refused refusal none = by_first (λ gs. NotAllSpelled (refused_as f.input.word refusal) gs) (λ g gs input keeps others.
+      subst (λ (i : Input). NotAllSpelled (refused_as i.word refusal) (g ∷ gs)) input
+      (none_here g gs refusal (subst (λ (i : Input). IsNone i.kind g.bytes refusal) (sym input) (subst (λ k. IsNone k g.bytes refusal) (sym kind_is) (none g.bytes keeps)))))
+
+  pub later_refused : (refusal : Refusal) → ((bytes : List ℕ) → Keeps kind f.kept bytes → IsSpelled kind bytes)
+      → ((gs : List File) → AreFiles rest gs → NotAllSpelled refusal gs) → (gs : List File) → AreFiles fs gs → NotAllSpelled refusal gs
+  later_refused refusal spelled not = by_first (λ gs. NotAllSpelled refusal gs) (λ g gs input keeps others.
+      none_later g gs refusal (subst (λ (i : Input). IsSpelled i.kind g.bytes) (sym input) (subst (λ k. IsSpelled k g.bytes) (sym kind_is) (spelled g.bytes keeps))) (not gs others))
+
+  pub all_spelled : (Tells : List ℕ → Type 0) (value : List ℕ → ValueOf kind) (Tell : List File → Type 0) (values : List File → Values ks)
+      → ((bytes : List ℕ) → Keeps kind f.kept bytes → Tells bytes × Spells (format_of kind) (value bytes) bytes)
+      → ((gs : List File) → AreFiles rest gs → Tell gs × SpellAll ks (values gs) gs)
+      → (gs : List File) → AreFiles fs gs → (Tells (first_bytes gs) × Tell (later gs)) × SpellAll (kind ∷ ks) (value (first_bytes gs), values (later gs)) gs
+  all_spelled Tells value Tell values here others =
+      by_first (λ gs. (Tells (first_bytes gs) × Tell (later gs)) × SpellAll (kind ∷ ks) (value (first_bytes gs), values (later gs)) gs) (λ g gs input keeps are.
+      let one = here g.bytes keeps in
+      let more = others gs are in
+      ((one.0, more.0), (one.1, more.1)))
+
+-- bytes that are kept as a whole are one
+pub same_whole : (k : kept_file.Kept) (a b : List ℕ) → KeepsWhole k a → KeepsWhole k b → a ≡ b
+same_whole (kept.Whole v) a b p q = sym p ∙ q
+same_whole (kept.Digest d) a b p q = absurd p
+
+-- of every kind but one the files are kept so
+pub kept_whole : (kind : Kind) (k : kept_file.Kept) (bytes : List ℕ) → kind ≢ Bytes → Keeps kind k bytes → KeepsWhole k bytes
+kept_whole Bytes k bytes other keeps = absurd (other refl)
+kept_whole Program k bytes other keeps = keeps
+kept_whole State k bytes other keeps = keeps
+kept_whole Batch k bytes other keeps = keeps

@@ -5,11 +5,10 @@ use Rattle.std.specs.declared.alloc.Global.{Global}
 use Rattle.std.proofs.lemmas.List.{take_rest}
 use Rattle.jam_cli.specs.declared.verb.Verb.{Verb}
 use Rattle.jam_cli.specs.declared.verb.Verb.TheVariants.{Run}
-use Rattle.jam_cli.specs.declared.words.Misfit.{Misfit}
-use Rattle.jam_cli.specs.declared.words.Misfit.TheVariants.{OtherWords}
+use Rattle.jam_cli.specs.declared.argument.Misfit.{Misfit}
+use Rattle.jam_cli.specs.declared.argument.Misfit.TheVariants.{OtherWords}
 use Rattle.jam_cli.specs.Table.{row, verb_named, Arguments, Command, command, Asks, AsksNothing, texts}
-use Rattle.jam_cli.specs.Parts.{Lists, Parses}
-use Rattle.jam_cli.proofs.Listed.{lists_of, asks_of}
+use Rattle.jam_cli.specs.Parts.{Parses}
 
 -- the checker finds each verb by its name
 named : (verb : Verb) → verb_named (row verb).name ≡ Some verb
@@ -30,14 +29,14 @@ unknown word rest none c asks =
 
 -- the first word names a verb by which nothing is asked
 only_verb : (verb : Verb) (word : List ℕ) (rest : List (List ℕ)) → word ≡ (row verb).name
-    → ((arguments : Arguments (row verb).parts) → Lists (command verb arguments) ((row verb).name ∷ rest) → ⊥) → AsksNothing (word ∷ rest)
+    → ((arguments : Arguments (row verb).parts) → Asks (command verb arguments) ((row verb).name ∷ rest) → ⊥) → AsksNothing (word ∷ rest)
 only_verb verb word rest is none c asks =
     let same : c.verb ≡ verb = name-injective c.verb verb (sym asks.words_are.0 ∙ is) in
-    let listed : Lists c ((row c.verb).name ∷ rest) = subst (λ w. Lists c (w ∷ rest)) asks.words_are.0 (lists_of c (word ∷ rest) asks) in
-    subst (λ v. ((arguments : Arguments (row v).parts) → Lists (command v arguments) ((row v).name ∷ rest) → ⊥) → ⊥) same (λ (f : (arguments : Arguments (row c.verb).parts) → Lists (command c.verb arguments) ((row c.verb).name ∷ rest) → ⊥). f c.arguments listed) none
+    let asked : Asks c ((row c.verb).name ∷ rest) = subst (λ w. Asks c (w ∷ rest)) asks.words_are.0 asks in
+    subst (λ v. ((arguments : Arguments (row v).parts) → Asks (command v arguments) ((row v).name ∷ rest) → ⊥) → ⊥) same (λ (f : (arguments : Arguments (row c.verb).parts) → Asks (command c.verb arguments) ((row c.verb).name ∷ rest) → ⊥). f c.arguments asked) none
 
-pub parsed : (verb : Verb) (word : List ℕ) (rest : List (List ℕ)) (c : Command) → word ≡ (row verb).name → Lists c ((row verb).name ∷ rest) → Asks c (word ∷ rest)
-parsed verb word rest c is lists = asks_of c (word ∷ rest) (subst (λ w. Lists c (w ∷ rest)) (sym is) lists)
+pub parsed : (verb : Verb) (word : List ℕ) (rest : List (List ℕ)) (c : Command) → word ≡ (row verb).name → Asks c ((row verb).name ∷ rest) → Asks c (word ∷ rest)
+parsed verb word rest c is asks = subst (λ w. Asks c (w ∷ rest)) (sym is) asks
 
 pub not_parsed : (verb : Verb) (word : List ℕ) (rest : List (List ℕ)) (misfit : Misfit) → word ≡ (row verb).name → misfit ≡ OtherWords
     → Parses verb rest (Err misfit) → AsksNothing (word ∷ rest)

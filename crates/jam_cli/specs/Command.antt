@@ -1,4 +1,4 @@
--- The work of each command: what it prints and stores, as a function of its arguments and of the values of its files.
+-- The work of each command: what it prints and stores, or the line of a text that it refuses, as a function of its arguments and of the values of its files.
 use Rattle.std.specs.Prelude.{ℕ, ◌+◌, ◌-◌, List, [], ◌∷◌, length, map, Ok, Option, Some, None}
 use Rattle.std.specs.FinMap as fin
 use Rattle.jam_codec.specs.Format.{Format, Spells, from}
@@ -7,6 +7,7 @@ use Rattle.blob_decode.specs.Program as blob
 use Rattle.pvm_step.specs.declared.exit.Exit.{Exit}
 use Rattle.pvm_step.specs.History.{Moment, answer, raw, output_of}
 use Rattle.pvm_invoke.specs.Outcome.{Outcome}
+use Rattle.pvm_asm.specs.declared.kind.AsmKind.{AsmKind}
 use Rattle.trace_text.specs.declared.line.Line.{Line}
 use Rattle.trace_text.specs.declared.line.Line.TheVariants as of
 use Rattle.trace_text.specs.Transcript.{text_of, block}
@@ -78,12 +79,17 @@ SpellAll (kind ∷ ks) values (f ∷ fs) = Spells (format_of kind) values.0 f.by
 -- ---- What is made of them
 
 -- what is printed; and the name and the bytes that are stored, if anything is
-pub record Work : Type 0 where
+pub record Product : Type 0 where
   pub printed : List ℕ
   pub entry : Option (List ℕ × List ℕ)
 
+-- the work of a command: what it makes; or the line of a text that it refuses, from 1, and why
+pub data Work : Type 0 where
+  made : (product : Product) → Work
+  bad_line : (line : ℕ) (kind : AsmKind) → Work
+
 abbrev pub prints : List Line → Work
-prints lines = record { printed = text_of lines; entry = None }
+prints lines = made (record { printed = text_of lines; entry = None })
 
 -- the outcome of a run with so much gas, by its last state
 abbrev pub outcome_by : ℕ → Moment → Exit → Outcome
@@ -110,9 +116,9 @@ batch_lines p bytes =
 -- accumulate: the posterior of the batch, which is stored
 abbrev pub accumulate_work : services.State → work_batch.Batch → List ℕ → Work
 accumulate_work prior batch name =
-    let made : Posterior = posterior_of prior batch in
-    let bytes : List ℕ = state_format.spell made.state in
-    record { printed = text_of (batch_lines made bytes); entry = Some (name, bytes) }
+    let posterior : Posterior = posterior_of prior batch in
+    let bytes : List ℕ = state_format.spell posterior.state in
+    made (record { printed = text_of (batch_lines posterior bytes); entry = Some (name, bytes) })
 
 -- the work of a verb
 abbrev pub work_of : (verb : Verb) (arguments : Arguments (row verb).parts) → Values (kinds (inputs (command verb arguments))) → Work

@@ -3,10 +3,11 @@ use Rattle.std.specs.Prelude.{◌≡◌, ◌≢◌, ◌⊎◌, ℕ, ◌<◌, ◌
 use Rattle.std.specs.FinMap as fin
 use Rattle.jam_outside.specs.Files.{Files, content}
 use Rattle.jam_outside.specs.Causes.{VaultState, SinkState, Raised, counted_where, Appends, AppendsPrefix}
+use Rattle.pvm_asm.specs.declared.kind.AsmKind.{AsmKind}
 use Rattle.jam_cli.specs.declared.status.Status.{Status}
-use Rattle.jam_cli.specs.declared.status.Status.TheVariants.{Done, NoMemory, BadWords, ReadFault, TooLong, Refused, SinkFault, StoreFault}
+use Rattle.jam_cli.specs.declared.status.Status.TheVariants.{Done, NoMemory, BadWords, ReadFault, TooLong, Refused, BadLine, SinkFault, StoreFault}
 use Rattle.jam_cli.specs.Table.{Input, Command, inputs, stored_name, Asks, AsksNothing}
-use Rattle.jam_cli.specs.Command.{File, held, kinds, Values, SpellAll, IsSpelled, IsRefusedAt, work}
+use Rattle.jam_cli.specs.Command.{File, held, kinds, Values, SpellAll, IsSpelled, IsRefusedAt, Product, Work, made, bad_line, work}
 
 -- what is known of the outside at a call's begin and at its end
 pub record Call : Type 0 where
@@ -57,6 +58,13 @@ IsInputWord (i ∷ is) word = (i.word ≡ word) ⊎ IsInputWord is word
 abbrev pub Gives : Files → (c : Command) → Values (kinds (inputs c)) → Type 0
 Gives files c values = AllRead (held files (inputs c)) × SpellAll (kinds (inputs c)) values (held files (inputs c))
 
+-- the command's work on the files is this
+abbrev pub Works : Files → Command → Work → Type 0
+Works files c w = (values : Values (kinds (inputs c))) × Gives files c values × (work c values ≡ w)
+
+abbrev pub Produces : Files → Command → Product → Type 0
+Produces files c p = Works files c (made p)
+
 -- ---- What was printed and stored
 
 abbrev pub PrintedNothing : Call → Type 0
@@ -64,11 +72,11 @@ PrintedNothing k = k.sink_after.taken ≡ k.sink.taken
 
 -- all that the command's work gives of its files was printed
 abbrev pub PrintedAll : Call → Files → Command → Type 0
-PrintedAll k files c = (values : Values (kinds (inputs c))) × Gives files c values × Appends k.sink.taken k.sink_after.taken (work c values).printed
+PrintedAll k files c = (p : Product) × Produces files c p × Appends k.sink.taken k.sink_after.taken p.printed
 
 -- a prefix of it was
 abbrev pub PrintedPrefix : Call → Files → Command → Type 0
-PrintedPrefix k files c = (values : Values (kinds (inputs c))) × Gives files c values × AppendsPrefix k.sink.taken k.sink_after.taken (work c values).printed
+PrintedPrefix k files c = (p : Product) × Produces files c p × AppendsPrefix k.sink.taken k.sink_after.taken p.printed
 
 -- the files after a store, if there is one
 abbrev pub with_entry : Option (List ℕ × List ℕ) → Files → Files
@@ -77,7 +85,7 @@ with_entry (Some entry) files = fin.insert files entry.0 entry.1
 
 -- the files hold what they did, but for what the command's work stores
 abbrev pub StoredAll : Call → Files → Command → Type 0
-StoredAll k files c = (values : Values (kinds (inputs c))) × Gives files c values × (k.vault_after.files ≡ Some (with_entry (work c values).entry files))
+StoredAll k files c = (p : Product) × Produces files c p × (k.vault_after.files ≡ Some (with_entry p.entry files))
 
 -- the files hold what they did
 abbrev pub KeepsFiles : Call → Type 0
@@ -100,6 +108,11 @@ pub record IsTooLong (c : Command) (k : Call) (word : ℕ) : Type 0 where
 pub record IsRefused (c : Command) (k : Call) (word place : ℕ) : Type 0 where
   pub input : IsInputWord (inputs c) word
   pub first : IfSome k.vault.files (λ files. AllRead (held files (inputs c)) × FirstRefused (held files (inputs c)) word place)
+
+-- the work on values of its kinds, and on those of its files where they are told, is to refuse this line
+pub record IsBadLine (c : Command) (k : Call) (line : ℕ) (kind : AsmKind) : Type 0 where
+  pub work : (values : Values (kinds (inputs c))) × (work c values ≡ bad_line line kind)
+  pub files : IfSome k.vault.files (λ files. Works files c (bad_line line kind))
 
 -- the sink failed in this call; a prefix was printed
 pub record IsSinkFault (c : Command) (k : Call) : Type 0 where
@@ -151,6 +164,14 @@ abbrev pub RefusedComes : Status → List (List ℕ) → Call → Type 0
 RefusedComes status words k = ReadThrough status
     → IfSome k.vault.files (λ files. (c : Command) (word place : ℕ) → Asks c words → AllRead (held files (inputs c)) → FirstRefused (held files (inputs c)) word place → status ≡ Refused word place)
 
+-- BadLine: exactly by its cause
+abbrev pub BadLineMeans : Status → List (List ℕ) → Call → Type 0
+BadLineMeans status words k = (line : ℕ) (kind : AsmKind) → status ≡ BadLine line kind → (c : Command) × Asks c words × IsBadLine c k line kind
+
+abbrev pub BadLineComes : Status → List (List ℕ) → Call → Type 0
+BadLineComes status words k = ReadThrough status
+    → IfSome k.vault.files (λ files. (c : Command) (line : ℕ) (kind : AsmKind) → Asks c words → Works files c (bad_line line kind) → status ≡ BadLine line kind)
+
 -- SinkFault, StoreFault: only by their causes
 abbrev pub SinkFaultMeans : Status → List (List ℕ) → Call → Type 0
 SinkFaultMeans status words k = status ≡ SinkFault → (c : Command) × Asks c words × IsSinkFault c k
@@ -169,6 +190,7 @@ IsSilent BadWords = Unit {0}
 IsSilent (ReadFault word) = Unit {0}
 IsSilent (TooLong word) = Unit {0}
 IsSilent (Refused word place) = Unit {0}
+IsSilent (BadLine line kind) = Unit {0}
 IsSilent status = ⊥
 
 abbrev pub SilentMeans : Status → Call → Type 0
@@ -222,7 +244,8 @@ CountsStores status words k = k.vault_after.stores ≡ k.vault.stores
 
 -- ---- Completeness
 
--- the files of a command are told, were not too long and spell values of their kinds, and no count of failures was raised
+-- the files of a command are told, were not too long and spell values of its kinds, of which no line is refused, and no
+-- count of failures was raised
 pub record IsServed (words : List (List ℕ)) (k : Call) : Type 0 where
   pub files : Files
   pub told : k.vault.files ≡ Some files
@@ -230,6 +253,8 @@ pub record IsServed (words : List (List ℕ)) (k : Call) : Type 0 where
   pub asks : Asks command words
   pub values : Values (kinds (inputs command))
   pub gives : Gives files command values
+  pub product : Product
+  pub makes : work command values ≡ made product
   pub reads : Raised k.vault.read_faults k.vault_after.read_faults → ⊥
   pub puts : Raised k.sink.faults k.sink_after.faults → ⊥
   pub stores : Raised k.vault.store_faults k.vault_after.store_faults → ⊥

@@ -2,7 +2,7 @@
 use Rattle.std.specs.Prelude.{◌≡◌, ◌≢◌, ℕ, List, Contains, Some, option_map}
 use Rattle.jam_cli.specs.declared.verb.Kind.{Kind}
 use Rattle.jam_cli.specs.Table.{Command, Input, Asks, inputs, stored_name}
-use Rattle.jam_cli.specs.Command.{File, Values, SpellAll, kinds, IsRefusedAt, work}
+use Rattle.jam_cli.specs.Command.{File, Values, SpellAll, kinds, IsRefusedAt, Product, made, work}
 
 -- words ask for at most one command
 abbrev pub AskOnce : Type 0
@@ -22,4 +22,4 @@ RefuseOnce = (kind : Kind) (bytes : List ℕ) (place other : ℕ) → IsRefusedA
 
 -- what is stored is stored under the name of the table, and where the table has none nothing is
 abbrev pub EntryNamed : Type 0
-EntryNamed = (c : Command) (values : Values (kinds (inputs c))) → option_map (λ (e : List ℕ × List ℕ). e.0) (work c values).entry ≡ stored_name c
+EntryNamed = (c : Command) (values : Values (kinds (inputs c))) (p : Product) → work c values ≡ made p → option_map (λ (e : List ℕ × List ℕ). e.0) p.entry ≡ stored_name c

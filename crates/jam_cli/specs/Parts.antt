@@ -1,29 +1,34 @@
 -- What the parts of a call say. Proofs alone need this.
-use Rattle.std.specs.Prelude.{◌≡◌, ◌⊎◌, ℕ, ◌≤◌, List, [], ◌∷◌, map, Option, Some, None, option_map, IfSome, Result, Ok, Err, decimal}
+use Rattle.std.specs.Prelude.{◌≡◌, ◌⊎◌, ℕ, ◌≤◌, List, [], ◌∷◌, map, Option, Some, None, option_map, IfSome, Result, Ok, Err}
+use Rattle.jam_outside.specs.Files.{Files}
 use Rattle.jam_outside.specs.Causes.{VaultState, SinkState, Raised, Appends, AppendsPrefix, read_failed, store_made, store_done, store_failed}
 use Rattle.jam_outside.specs.declared.whole.ReadRefusal.{ReadRefusal}
 use Rattle.jam_outside.specs.declared.whole.ReadRefusal.TheVariants as read
+use Rattle.blake2b_core.specs.Blake2b.{digest}
 use Rattle.jam_codec.specs.declared.refusal.FileRefusal.{FileRefusal}
 use Rattle.jam_codec.specs.declared.refusal.FileRefusal.TheVariants as codec
 use Rattle.jam_cli.specs.declared.status.Status.{Status}
 use Rattle.jam_cli.specs.declared.status.Status.TheVariants as status
 use Rattle.jam_cli.specs.declared.refusal.Refusal.{Refusal}
-use Rattle.jam_cli.specs.declared.refusal.Refusal.TheVariants.{NoMemory, BadWords, ReadFault, TooLong, NotSpelled, SinkFault, StoreFault}
+use Rattle.jam_cli.specs.declared.refusal.Refusal.TheVariants.{NoMemory, BadWords, ReadFault, TooLong, NotSpelled, BadLine, SinkFault, StoreFault}
 use Rattle.jam_cli.specs.declared.verb.Kind.{Kind}
+use Rattle.jam_cli.specs.declared.verb.Kind.TheVariants.{Program, Bytes, State, Batch}
 use Rattle.jam_cli.specs.declared.verb.Verb.{Verb}
 use Rattle.jam_cli.specs.declared.verb.Verb.TheVariants as the
 use Rattle.jam_cli.specs.declared.words.Command as parsed
 use Rattle.jam_cli.specs.declared.words.Command.TheVariants as of
 use Rattle.jam_cli.specs.declared.words.Line as parsed_line
-use Rattle.jam_cli.specs.declared.words.Misfit.{Misfit}
-use Rattle.jam_cli.specs.declared.words.Misfit.TheVariants as misfit
+use Rattle.jam_cli.specs.declared.argument.Misfit.{Misfit}
+use Rattle.jam_cli.specs.declared.argument.Misfit.TheVariants as misfit
 use Rattle.jam_cli.specs.declared.reads.Input as code_input
 use Rattle.jam_cli.specs.declared.reads.File as code_file
+use Rattle.jam_cli.specs.declared.kept.Kept as kept_file
+use Rattle.jam_cli.specs.declared.kept.Kept.TheVariants as kept
 use Rattle.jam_cli.specs.declared.work.Work as code_work
 use Rattle.jam_cli.specs.declared.work.Entry as code_entry
-use Rattle.jam_cli.specs.Table.{Part, reads, stores, number, row, Argument, Arguments, FitAll, Command, command, Asks, AsksNothing, Input, inputs, stored_name, NamesNone}
-use Rattle.jam_cli.specs.Command.{File, held, kinds, Values, SpellAll, IsRefusedAt, Work, work}
-use Rattle.jam_cli.specs.Ending.{Call, limit, FirstTooLong, FirstRefused, FirstNamed, IsInputWord, Gives, IsReadFault, IsTooLong, IsRefused}
+use Rattle.jam_cli.specs.Table.{row, Arguments, Command, command, Asks, AsksNothing, Input, inputs, stored_name, NamesNone}
+use Rattle.jam_cli.specs.Command.{File, held, kinds, Values, SpellAll, IsRefusedAt, Product, Work, made, bad_line, work}
+use Rattle.jam_cli.specs.Ending.{Call, limit, AllRead, FirstTooLong, FirstRefused, FirstNamed, IsInputWord, Produces, IsReadFault, IsTooLong, IsRefused, IsBadLine}
 
 -- ---- The words
 
@@ -32,25 +37,6 @@ abbrev pub asked : parsed.Command → Command
 asked (of.Run blob gas) = command the.Run (blob.now, (gas.value, tt))
 asked (of.Hash file) = command the.Hash (file.now, tt)
 asked (of.Accumulate state batch posterior slice) = command the.Accumulate (state.now, (batch.now, (posterior.now, (slice, tt))))
-
--- the words of a command, where each argument has one word
-abbrev pub word_of : (part : Part) → Argument part → List ℕ
-word_of (reads kind) name = name
-word_of stores name = name
-word_of (number bound) n = decimal n
-
-abbrev pub words_from : (parts : List Part) → Arguments parts → List (List ℕ)
-words_from [] arguments = []
-words_from (part ∷ parts) arguments = word_of part arguments.0 ∷ words_from parts arguments.1
-
-abbrev pub words_of : Command → List (List ℕ)
-words_of c = (row c.verb).name ∷ words_from (row c.verb).parts c.arguments
-
--- the same as to ask for the command
-pub record Lists (c : Command) (words : List (List ℕ)) : Type 0 where
-  pub words_are : words ≡ words_of c
-  pub fit : FitAll (row c.verb).parts c.arguments
-  pub apart : IfSome (stored_name c) (NamesNone (inputs c))
 
 -- the inputs that the code holds
 abbrev pub plain : code_input.Input → Input
@@ -65,21 +51,74 @@ IsLine l = (plains l.inputs.items ≡ inputs (asked l.command)) × (option_map (
 
 -- what the words after a verb are parsed as
 abbrev pub Parses : Verb → List (List ℕ) → Result parsed_line.Line Misfit → Type 0
-Parses verb words (Ok l) = Lists (asked l.command) ((row verb).name ∷ words) × IsLine l
-Parses verb words (Err misfit.OtherWords) = (arguments : Arguments (row verb).parts) → Lists (command verb arguments) ((row verb).name ∷ words) → ⊥
+Parses verb words (Ok l) = Asks (asked l.command) ((row verb).name ∷ words) × IsLine l
+Parses verb words (Err misfit.OtherWords) = (arguments : Arguments (row verb).parts) → Asks (command verb arguments) ((row verb).name ∷ words) → ⊥
 Parses verb words (Err misfit.NoMemory) = Unit {0}
 
 -- ---- The files
 
--- the files that the code holds
-abbrev pub plain_file : code_file.File → File
-plain_file f = record { input = plain f.input; bytes = f.bytes.items }
+-- a file that is kept as a whole
+abbrev pub KeepsWhole : kept_file.Kept → List ℕ → Type 0
+KeepsWhole (kept.Whole v) bytes = v.items ≡ bytes
+KeepsWhole (kept.Digest d) bytes = ⊥
 
-abbrev pub plain_files : List code_file.File → List File
-plain_files fs = map plain_file fs
+-- one of which the digest is kept
+abbrev pub KeepsDigest : kept_file.Kept → List ℕ → Type 0
+KeepsDigest (kept.Whole v) bytes = ⊥
+KeepsDigest (kept.Digest d) bytes = d ≡ digest bytes
+
+-- a file of a kind is kept so
+abbrev pub Keeps : Kind → kept_file.Kept → List ℕ → Type 0
+Keeps Bytes k bytes = KeepsDigest k bytes
+Keeps Program k bytes = KeepsWhole k bytes
+Keeps State k bytes = KeepsWhole k bytes
+Keeps Batch k bytes = KeepsWhole k bytes
+
+-- the code holds this file
+pub record IsFile (f : code_file.File) (g : File) : Type 0 where
+  pub input : g.input ≡ plain f.input
+  pub kept : Keeps f.input.kind f.kept g.bytes
+
+-- it holds these, one after another
+abbrev pub AreFiles : List code_file.File → List File → Type 0
+AreFiles [] [] = Unit {0}
+AreFiles [] (g ∷ gs) = ⊥
+AreFiles (f ∷ fs) [] = ⊥
+AreFiles (f ∷ fs) (g ∷ gs) = IsFile f g × AreFiles fs gs
+
+-- it holds some
+abbrev pub AreKept : List code_file.File → Type 0
+AreKept fs = (gs : List File) × AreFiles fs gs
+
+-- so of those that it holds
+abbrev pub OfFiles : List code_file.File → (List File → Type 0) → Type 0
+OfFiles fs P = (gs : List File) → AreFiles fs gs → P gs
 
 abbrev pub inputs_in : List code_file.File → List Input
 inputs_in fs = map (λ (f : code_file.File). plain f.input) fs
+
+abbrev pub inputs_of : List File → List Input
+inputs_of fs = map (λ (f : File). f.input) fs
+
+-- the bytes of the first of files, and the files after it
+abbrev pub first_bytes : List File → List ℕ
+first_bytes [] = []
+first_bytes (f ∷ fs) = f.bytes
+
+abbrev pub later : List File → List File
+later [] = []
+later (f ∷ fs) = fs
+
+-- where the files are told, these are those of inputs, and hold no more than is read
+abbrev pub AreHeld : Option Files → List Input → List File → Type 0
+AreHeld told is fs = IfSome told (λ files. AllRead (held files is) × (fs ≡ held files is))
+
+-- the code holds the files of inputs
+pub record AreRead (told : Option Files) (is : List Input) (all : List code_file.File) : Type 0 where
+  pub files : List File
+  pub are : AreFiles all files
+  pub inputs : inputs_of files ≡ is
+  pub read : AreHeld told is files
 
 -- some of the files were not read
 abbrev pub NotRead : Refusal → List Input → VaultState → VaultState → Type 0
@@ -115,12 +154,25 @@ NotAllSpelled refusal fs = ⊥
 abbrev pub entry_of : Option code_entry.Entry → Option (List ℕ × List ℕ)
 entry_of = option_map (λ (e : code_entry.Entry). (e.name.now, e.bytes.items))
 
+abbrev pub plain_product : code_work.Work → Product
+plain_product w = record { printed = w.text.items; entry = entry_of w.entry }
+
 abbrev pub plain_work : code_work.Work → Work
-plain_work w = record { printed = w.text.items; entry = entry_of w.entry }
+plain_work w = made (plain_product w)
 
 -- it is the command's work on what these files spell
 abbrev pub IsWork : Command → List File → Work → Type 0
 IsWork c fs w = (values : Values (kinds (inputs c))) × SpellAll (kinds (inputs c)) values fs × (w ≡ work c values)
+
+-- it was not done
+abbrev pub NotWorked : Refusal → Command → List File → Type 0
+NotWorked (BadLine line kind) c fs = IsWork c fs (bad_line line kind)
+NotWorked refusal c fs = NotAllSpelled refusal fs
+
+-- what the code made of files that it holds
+abbrev pub WorkedOn : Command → List code_file.File → Result code_work.Work Refusal → Type 0
+WorkedOn c fs (Ok w) = OfFiles fs (λ gs. IsWork c gs (plain_work w))
+WorkedOn c fs (Err refusal) = OfFiles fs (NotWorked refusal c)
 
 -- ---- What is handed out
 
@@ -147,32 +199,33 @@ NotStored refusal v w entry = ⊥
 -- ---- The call
 
 -- what a command gives of the files of a vault
-pub record Makes (c : Command) (v : VaultState) (w : Work) : Type 0 where
+pub record Makes (c : Command) (v : VaultState) (w : Product) : Type 0 where
   pub named : name_in w.entry ≡ stored_name c
-  pub gives : IfSome v.files (λ files. (values : Values (kinds (inputs c))) × Gives files c values × (w ≡ work c values))
+  pub gives : IfSome v.files (λ files. Produces files c w)
 
 -- the outside is as it was
 abbrev pub Untouched : Call → Type 0
 Untouched k = (k.vault_after ≡ k.vault) × (k.sink_after ≡ k.sink)
 
 -- all was printed, and the sink did not fail
-abbrev pub PrintsAll : Call → Work → Type 0
+abbrev pub PrintsAll : Call → Product → Type 0
 PrintsAll k w = Appends k.sink.taken k.sink_after.taken w.printed × (k.sink_after.faults ≡ k.sink.faults)
 
 -- a prefix was
-abbrev pub PrintsPrefix : Call → Work → Type 0
+abbrev pub PrintsPrefix : Call → Product → Type 0
 PrintsPrefix k w = AppendsPrefix k.sink.taken k.sink_after.taken w.printed × (k.sink_after.faults ≡ k.sink.faults)
 
 -- how a call of a command ends
 abbrev pub Ends : Result (Unit {0}) Refusal → Command → Call → Type 0
-Ends (Ok x) c k = (w : Work) × Makes c k.vault w × PrintsAll k w × (k.vault_after ≡ entry_stored w.entry k.vault)
-Ends (Err NoMemory) c k = Untouched k ⊎ ((w : Work) × Makes c k.vault w × PrintsPrefix k w × ((k.vault_after ≡ k.vault) ⊎ (k.vault_after ≡ store_made k.vault)))
+Ends (Ok x) c k = (w : Product) × Makes c k.vault w × PrintsAll k w × (k.vault_after ≡ entry_stored w.entry k.vault)
+Ends (Err NoMemory) c k = Untouched k ⊎ ((w : Product) × Makes c k.vault w × PrintsPrefix k w × ((k.vault_after ≡ k.vault) ⊎ (k.vault_after ≡ store_made k.vault)))
 Ends (Err BadWords) c k = ⊥
 Ends (Err (ReadFault word)) c k = IsReadFault c k word × (k.vault_after ≡ read_failed k.vault k.vault_after.failed k.vault_after.failed_place) × (k.sink_after ≡ k.sink)
 Ends (Err (TooLong word)) c k = IsTooLong c k word × Untouched k
 Ends (Err (NotSpelled word place)) c k = IsRefused c k word place × Untouched k
-Ends (Err SinkFault) c k = (w : Work) × Makes c k.vault w × AppendsPrefix k.sink.taken k.sink_after.taken w.printed × Raised k.sink.faults k.sink_after.faults × (k.vault_after ≡ k.vault)
-Ends (Err StoreFault) c k = (w : Work) × Makes c k.vault w × PrintsAll k w × ((name : List ℕ) × (name_in w.entry ≡ Some name) × (k.vault_after ≡ store_failed k.vault name))
+Ends (Err (BadLine line kind)) c k = IsBadLine c k line kind × Untouched k
+Ends (Err SinkFault) c k = (w : Product) × Makes c k.vault w × AppendsPrefix k.sink.taken k.sink_after.taken w.printed × Raised k.sink.faults k.sink_after.faults × (k.vault_after ≡ k.vault)
+Ends (Err StoreFault) c k = (w : Product) × Makes c k.vault w × PrintsAll k w × ((name : List ℕ) × (name_in w.entry ≡ Some name) × (k.vault_after ≡ store_failed k.vault name))
 
 -- how a call with these words ends
 abbrev pub CallEnds : Result (Unit {0}) Refusal → List (List ℕ) → Call → Type 0
@@ -188,5 +241,6 @@ status_of (Err BadWords) = status.BadWords
 status_of (Err (ReadFault word)) = status.ReadFault word
 status_of (Err (TooLong word)) = status.TooLong word
 status_of (Err (NotSpelled word place)) = status.Refused word place
+status_of (Err (BadLine line kind)) = status.BadLine line kind
 status_of (Err SinkFault) = status.SinkFault
 status_of (Err StoreFault) = status.StoreFault

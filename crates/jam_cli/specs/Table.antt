@@ -1,18 +1,21 @@
 -- The table of words: the verbs, each with its name and its parts in order; and what words ask for by it.
-use Rattle.std.specs.Prelude.{◌≡◌, ◌≢◌, ℕ, ◌+◌, ◌^◌, ◌<◌, List, [], ◌∷◌, map, codes, decimal, String, string_bytes, Option, Some, None, IfSome}
+use Rattle.std.specs.Prelude.{◌≡◌, ◌≢◌, ℕ, ◌+◌, ◌^◌, ◌<◌, ◌≤◌, List, [], ◌∷◌, length, map, codes, decimal, String, string_bytes, Option, Some, None, Ok, IfSome}
 use Rattle.std.specs.List.{find}
 use Rattle.std.specs.Str.{bytes_eq}
+use Rattle.hex.specs.Hex.{decode_of}
 use Rattle.std.specs.declared.alloc.Global.{Global}
 use Rattle.jam_cli.specs.declared.verb.Kind.{Kind}
 use Rattle.jam_cli.specs.declared.verb.Kind.TheVariants.{Program, Bytes, State, Batch}
 use Rattle.jam_cli.specs.declared.verb.Verb.{Verb}
 use Rattle.jam_cli.specs.declared.verb.Verb.TheVariants as the
 
--- a part: the name of a file that is read, with what it holds; the name that is stored under; a number below a bound
+-- a part: the name of a file that is read, with what it holds; the name that is stored under; a number from the least on and
+-- below the bound; bytes in hexadecimal, of which there are at least and at most so many
 pub data Part : Type 0 where
   reads : (kind : Kind) → Part
   stores : Part
-  number : (bound : ℕ) → Part
+  number : (least bound : ℕ) → Part
+  hexadecimal : (least most : ℕ) → Part
 
 pub record Row : Type 0 where
   pub name : List ℕ
@@ -20,9 +23,9 @@ pub record Row : Type 0 where
 
 -- the table; the slice of accumulate is 0 for now
 abbrev pub row : Verb → Row
-row the.Run = record { name = codes "run"; parts = reads Program ∷ (number (2 ^ 63) ∷ []) }
+row the.Run = record { name = codes "run"; parts = reads Program ∷ (number 0 (2 ^ 63) ∷ []) }
 row the.Hash = record { name = codes "hash"; parts = reads Bytes ∷ [] }
-row the.Accumulate = record { name = codes "accumulate"; parts = reads State ∷ (reads Batch ∷ (stores ∷ (number 1 ∷ []))) }
+row the.Accumulate = record { name = codes "accumulate"; parts = reads State ∷ (reads Batch ∷ (stores ∷ (number 0 1 ∷ []))) }
 
 abbrev pub verbs : List Verb
 verbs = the.Run ∷ (the.Hash ∷ (the.Accumulate ∷ []))
@@ -31,22 +34,29 @@ verbs = the.Run ∷ (the.Hash ∷ (the.Accumulate ∷ []))
 unfoldable pub verb_named : List ℕ → Option Verb
 verb_named word = find (λ verb. bytes_eq (row verb).name word) verbs
 
--- the argument for a part: a name, or a number
+-- the argument for a part: a name, a number, or bytes
 abbrev pub Argument : Part → Type 0
 Argument (reads kind) = List ℕ
 Argument stores = List ℕ
-Argument (number bound) = ℕ
+Argument (number least bound) = ℕ
+Argument (hexadecimal least most) = List ℕ
 
 abbrev pub Arguments : List Part → Type 0
 Arguments [] = Unit {0}
 Arguments (part ∷ parts) = Argument part × Arguments parts
 
--- a word of an argument: a name itself, a number's decimal digits without leading zeros. It is no function of the argument,
--- since bytes in hexadecimal may have digits of either case
+-- a word of bytes in hexadecimal: a dash for none, and else two digits of either case for each
+abbrev pub IsHexadecimal : List ℕ → List ℕ → Type 0
+IsHexadecimal [] word = word ≡ codes "-"
+IsHexadecimal (byte ∷ bytes) word = decode_of word ≡ Ok (byte ∷ bytes)
+
+-- a word of an argument: a name itself, a number's decimal digits without leading zeros, bytes in hexadecimal. It is no
+-- function of the argument, since digits of either case spell the same bytes
 abbrev pub IsWord : (part : Part) → Argument part → List ℕ → Type 0
 IsWord (reads kind) name word = word ≡ name
 IsWord stores name word = word ≡ name
-IsWord (number bound) n word = word ≡ decimal n
+IsWord (number least bound) n word = word ≡ decimal n
+IsWord (hexadecimal least most) bytes word = IsHexadecimal bytes word
 
 -- words of the arguments, one for each part
 abbrev pub AreWords : (parts : List Part) → Arguments parts → List (List ℕ) → Type 0
@@ -55,11 +65,12 @@ AreWords [] arguments (word ∷ words) = ⊥
 AreWords (part ∷ parts) arguments [] = ⊥
 AreWords (part ∷ parts) arguments (word ∷ words) = IsWord part arguments.0 word × AreWords parts arguments.1 words
 
--- a name is not empty, and a number is below its bound
+-- a name is not empty, and a number or a count of bytes is within its bounds
 abbrev pub Fits : (part : Part) → Argument part → Type 0
 Fits (reads kind) name = name ≢ []
 Fits stores name = name ≢ []
-Fits (number bound) n = n < bound
+Fits (number least bound) n = (least ≤ n) × (n < bound)
+Fits (hexadecimal least most) bytes = (least ≤ length bytes) × (length bytes ≤ most)
 
 abbrev pub FitAll : (parts : List Part) → Arguments parts → Type 0
 FitAll [] arguments = Unit {0}
@@ -75,7 +86,8 @@ pub record Input : Type 0 where
 abbrev pub with_input : ℕ → (part : Part) → Argument part → List Input → List Input
 with_input word (reads kind) name later = record { word = word; name = name; kind = kind } ∷ later
 with_input word stores name later = later
-with_input word (number bound) n later = later
+with_input word (number least bound) n later = later
+with_input word (hexadecimal least most) bytes later = later
 
 abbrev pub inputs_from : ℕ → (parts : List Part) → Arguments parts → List Input
 inputs_from word [] arguments = []
@@ -85,7 +97,8 @@ inputs_from word (part ∷ parts) arguments = with_input word part arguments.0 (
 abbrev pub or_stored : (part : Part) → Argument part → Option (List ℕ) → Option (List ℕ)
 or_stored (reads kind) name later = later
 or_stored stores name later = Some name
-or_stored (number bound) n later = later
+or_stored (number least bound) n later = later
+or_stored (hexadecimal least most) bytes later = later
 
 abbrev pub stored_from : (parts : List Part) → Arguments parts → Option (List ℕ)
 stored_from [] arguments = None

@@ -2,8 +2,10 @@
 #![tactic(auto)]
 
 mod accumulate;
+mod argument;
 mod deliver;
 mod hash;
+mod kept;
 mod laws;
 mod number;
 mod reads;
@@ -16,6 +18,7 @@ mod verb;
 mod words;
 mod work;
 
+pub use argument::{Misfit, hexadecimal};
 pub use laws::command_laws;
 pub use status::Status;
 pub use top::jam;

@@ -1,17 +1,14 @@
 // The files that a command reads.
 ghost use Rattle.std.specs.Prelude.{◌≡◌, ◌≢◌, ◌⊎◌, OnOk, IfOk, IfErr, IfSome, IsTrue, ◌↔◌};
 ghost use Rattle.jam_cli.specs.Table.{NamesNone};
-ghost use Rattle.jam_cli.specs.Command.{held};
-ghost use Rattle.jam_cli.specs.Ending.{AllRead, FirstNamed};
-ghost use Rattle.jam_cli.specs.Parts.{plain, plains, plain_files, inputs_in, NotRead, EndOf};
+ghost use Rattle.jam_cli.specs.Ending.{FirstNamed};
+ghost use Rattle.jam_cli.specs.Parts.{plain, plains, inputs_in, AreKept, AreRead, NotRead, EndOf};
 
+use crate::kept::{Kept, read_kept};
 use crate::refusal::Refusal;
 use crate::verb::Kind;
-use jam_outside::{ReadRefusal, Vault, read_whole};
+use jam_outside::{ReadRefusal, Vault};
 use std::alloc::Global;
-
-/// How many bytes of a file are read at the most.
-const LIMIT: u64 = 67_108_864;
 
 /// A file that is read: the number of its word, where the verb is word 0, its name and its kind.
 #[derive(Clone, Copy)]
@@ -25,7 +22,7 @@ pub struct Input<'a> {
 #[derive(Drop)]
 pub struct File<'a> {
     pub input: Input<'a>,
-    pub bytes: Vec<u8>,
+    pub kept: Kept,
 }
 
 fn is_name(input: &Input<'_>, name: &str) -> bool
@@ -64,17 +61,17 @@ pub fn read_inputs<'a, V: Vault>(
     inputs: &[Input<'a>],
 ) -> Result<Vec<File<'a>>, Refusal>
     ensures inputs { IfOk result (λ all. inputs_in all.items ≡ plains inputs.now) }
-    ensures read { IfOk result (λ all. IfSome (V.state vault.old).files (λ files.
-        AllRead (held files (plains inputs.now)) × (plain_files all.items ≡ held files (plains inputs.now)))) }
+    ensures read { IfOk result (λ all. AreRead (V.state vault.old).files (plains inputs.now) all.items) }
+    ensures keeps { IfOk result (λ all. AreKept all.items) }
     ensures kept { OnOk result (V.state vault.new ≡ V.state vault.old) }
     ensures not_read { IfErr result (λ refusal. NotRead refusal (plains inputs.now) (V.state vault.old) (V.state vault.new)) }
 {
     let mut all = Vec::new(alloc);
     for input in inputs {
-        match read_whole(alloc, vault, input.name, LIMIT) {
-            Ok(bytes) => all.push(File {
+        match read_kept(alloc, vault, input.name, input.kind) {
+            Ok(kept) => all.push(File {
                 input: *input,
-                bytes,
+                kept,
             })?,
             Err(refusal) => return Err(end_of(inputs, input, refusal)),
         }

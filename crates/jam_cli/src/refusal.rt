@@ -4,6 +4,7 @@ ghost use Rattle.jam_cli.specs.Parts.{status_of};
 ghost use Rattle.jam_cli.specs.declared.refusal.Refusal.TheVariants.{NoMemory};
 
 use crate::status::Status;
+use pvm_asm::AsmKind;
 use std::alloc::{AllocError, AllocFailed};
 
 /// Every ending of a call but that all is done.
@@ -14,6 +15,7 @@ pub enum Refusal {
     ReadFault(u8),
     TooLong(u8),
     NotSpelled { word: u8, place: u64 },
+    BadLine { line: u64, kind: AsmKind },
     SinkFault,
     StoreFault,
 }
@@ -45,6 +47,7 @@ pub fn status_of(outcome: Result<(), Refusal>) -> Status
         Err(Refusal::ReadFault(word)) => Status::ReadFault(word),
         Err(Refusal::TooLong(word)) => Status::TooLong(word),
         Err(Refusal::NotSpelled { word, place }) => Status::Refused { word, place },
+        Err(Refusal::BadLine { line, kind }) => Status::BadLine { line, kind },
         Err(Refusal::SinkFault) => Status::SinkFault,
         Err(Refusal::StoreFault) => Status::StoreFault,
     }

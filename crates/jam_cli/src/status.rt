@@ -1,4 +1,5 @@
 // How a call ends.
+use pvm_asm::AsmKind;
 
 /// The end of a call, by its cause.
 #[derive(Clone, Copy, Debug, PartialEq, Eq)]
@@ -17,6 +18,8 @@ pub enum Status {
     /// before the first field that does not spell; for bytes after the value it is the value's
     /// length.
     Refused { word: u8, place: u64 },
+    /// A line of a text is refused. The first line is 1.
+    BadLine { line: u64, kind: AsmKind },
     /// The sink failed; a prefix was printed.
     SinkFault,
     /// The store failed; all was printed.

@@ -1,10 +1,11 @@
 // The top call.
 ghost use Rattle.std.specs.Prelude.{◌≡◌};
 ghost use Rattle.jam_cli.specs.Table.{texts};
-ghost use Rattle.jam_cli.specs.Ending.{call, DoneMeans, BadWordsMeans, BadWordsComes, ReadFaultMeans, TooLongMeans, TooLongComes, RefusedMeans, RefusedComes, SinkFaultMeans, StoreFaultMeans, NoMemoryMeans, SilentMeans, OthersKeepFiles, InputsKept, CountsFaults, KeepsNames, CountsStores, ServedIsDone};
+ghost use Rattle.jam_cli.specs.Ending.{call, DoneMeans, BadWordsMeans, BadWordsComes, ReadFaultMeans, TooLongMeans, TooLongComes, RefusedMeans, RefusedComes, BadLineMeans, BadLineComes, SinkFaultMeans, StoreFaultMeans, NoMemoryMeans, SilentMeans, OthersKeepFiles, InputsKept, CountsFaults, KeepsNames, CountsStores, ServedIsDone};
 ghost use Rattle.jam_cli.specs.Parts.{asked, IsLine, Ends, CallEnds};
 
 use crate::deliver::{print, store};
+use crate::laws::command_laws;
 use crate::reads::read_inputs;
 use crate::refusal::{Refusal, status_of};
 use crate::status::Status;
@@ -69,6 +70,8 @@ pub fn jam<V: Vault, S: Sink>(
     ensures too_long_where { TooLongComes result (texts words.now.items) (call (V.state vault.old) (V.state vault.new) (S.state out.old) (S.state out.new)) }
     ensures refused { RefusedMeans result (texts words.now.items) (call (V.state vault.old) (V.state vault.new) (S.state out.old) (S.state out.new)) }
     ensures refused_where { RefusedComes result (texts words.now.items) (call (V.state vault.old) (V.state vault.new) (S.state out.old) (S.state out.new)) }
+    ensures bad_line { BadLineMeans result (texts words.now.items) (call (V.state vault.old) (V.state vault.new) (S.state out.old) (S.state out.new)) }
+    ensures bad_line_where { BadLineComes result (texts words.now.items) (call (V.state vault.old) (V.state vault.new) (S.state out.old) (S.state out.new)) }
     ensures sink_fault { SinkFaultMeans result (texts words.now.items) (call (V.state vault.old) (V.state vault.new) (S.state out.old) (S.state out.new)) }
     ensures store_fault { StoreFaultMeans result (texts words.now.items) (call (V.state vault.old) (V.state vault.new) (S.state out.old) (S.state out.new)) }
     ensures no_memory { NoMemoryMeans result (texts words.now.items) (call (V.state vault.old) (V.state vault.new) (S.state out.old) (S.state out.new)) }
@@ -81,5 +84,6 @@ pub fn jam<V: Vault, S: Sink>(
     ensures stores { CountsStores result (texts words.now.items) (call (V.state vault.old) (V.state vault.new) (S.state out.old) (S.state out.new)) }
     ensures complete { ServedIsDone result (texts words.now.items) (call (V.state vault.old) (V.state vault.new) (S.state out.old) (S.state out.new)) }
 {
+    command_laws();
     status_of(serve(alloc, words, vault, out))
 }

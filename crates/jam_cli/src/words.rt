@@ -1,14 +1,15 @@
 // The words of a command line.
-ghost use Rattle.std.specs.Prelude.{◌≡◌, ◌≢◌, ◌<◌, ◌^◌, [], ◌∷◌, ℕ, IfOk, Err, MatchOption, MatchResult, IsTrue, ◌↔◌, decimal, string_bytes};
+ghost use Rattle.std.specs.Prelude.{◌≡◌, ◌≢◌, IfOk, MatchOption, MatchResult};
 ghost use Rattle.jam_cli.specs.declared.verb.Verb.TheVariants as the;
-ghost use Rattle.jam_cli.specs.declared.words.Misfit.TheVariants.{OtherWords, NoMemory};
+ghost use Rattle.jam_cli.specs.declared.argument.Misfit.TheVariants.{OtherWords};
 ghost use Rattle.jam_cli.specs.Table.{Asks, AsksNothing, texts};
 ghost use Rattle.jam_cli.specs.Parts.{asked, IsLine, Parses};
 
+use crate::argument::{Misfit, is_text, name, number, small};
 use crate::number::Small;
 use crate::reads::Input;
 use crate::verb::{Kind, Verb, verb_of};
-use std::alloc::{AllocError, AllocFailed, Global};
+use std::alloc::{AllocError, Global};
 
 /// A row of the table of words, with its arguments. The files that it reads are not among them.
 #[derive(Clone, Copy)]
@@ -37,75 +38,6 @@ pub struct Line<'a> {
     pub command: Command<'a>,
     pub inputs: Vec<Input<'a>>,
     pub stored: Option<&'a str>,
-}
-
-// Why words are not those of a verb.
-#[derive(Clone, Copy)]
-enum Misfit {
-    OtherWords,
-    NoMemory,
-}
-
-impl From<AllocError> for Misfit {
-    ghost from_gives = { λ _ e. e ≡ NoMemory };
-
-    fn from(_: AllocError) -> Self {
-        Misfit::NoMemory
-    }
-}
-
-impl<T: Drop> From<AllocFailed<T>> for Misfit {
-    ghost from_gives = { λ _ e. e ≡ NoMemory };
-
-    fn from(_: AllocFailed<T>) -> Self {
-        Misfit::NoMemory
-    }
-}
-
-fn is_text(word: &str, text: &str) -> bool
-    ensures { IsTrue result ↔ (word.now ≡ text.now) }
-{
-    word == text
-}
-
-// A word that is a name.
-fn name(word: &String) -> Result<&str, Misfit>
-    ensures { MatchResult result
-        (λ name. (name.now ≡ string_bytes word.now) × (string_bytes word.now ≢ []))
-        (λ e. (e ≡ OtherWords) × (string_bytes word.now ≡ [])) }
-{
-    if word.is_empty() {
-        return Err(Misfit::OtherWords);
-    }
-    Ok(word.as_str())
-}
-
-// The number below a bound whose decimal digits without leading zeros are the word.
-fn number(alloc: Global, word: &String, bound: u64) -> Result<u64, Misfit>
-    ensures fits { IfOk result (λ n. (n < bound) × (string_bytes word.now ≡ decimal n)) }
-    ensures other { result ≡ Err OtherWords → (n : ℕ) → n < bound → string_bytes word.now ≢ decimal n }
-{
-    let Ok(number) = word.as_str().parse::<u64>() else {
-        return Err(Misfit::OtherWords);
-    };
-    if number >= bound {
-        return Err(Misfit::OtherWords);
-    }
-    let digits = number.to_string(alloc)?;
-    if is_text(digits.as_str(), word.as_str()) {
-        Ok(number)
-    } else {
-        Err(Misfit::OtherWords)
-    }
-}
-
-// The same for the bound 2^63.
-fn small(alloc: Global, word: &String) -> Result<Small, Misfit>
-    ensures fits { IfOk result (λ n. string_bytes word.now ≡ decimal n.value) }
-    ensures other { result ≡ Err OtherWords → (n : ℕ) → n < 2 ^ 63 → string_bytes word.now ≢ decimal n }
-{
-    let value = number(alloc, word, 1 << 63)?;
-    Ok(Small { value })
 }
 
 // Fails where the name is that of a file that is read.
@@ -164,7 +96,7 @@ fn accumulate_of<'a>(alloc: Global, words: &'a [String]) -> Result<Line<'a>, Mis
     let state = name(state)?;
     let batch = name(batch)?;
     let posterior = name(posterior)?;
-    let slice = number(alloc, slice, 1)?;
+    let slice = number(alloc, slice, 0, 1)?;
     apart(posterior, state)?;
     apart(posterior, batch)?;
     Ok(Line {

@@ -1,10 +1,10 @@
 // What each command makes of the values of its files.
-ghost use Rattle.std.specs.Prelude.{◌≡◌, [], ◌∷◌, IfOk, IfErr};
+ghost use Rattle.std.specs.Prelude.{◌≡◌, [], ◌∷◌};
 ghost use Rattle.jam_cli.specs.declared.verb.Kind.TheVariants as kind;
 ghost use Rattle.jam_cli.specs.declared.verb.Verb.TheVariants as the;
 ghost use Rattle.jam_cli.specs.Table.{command, inputs};
 ghost use Rattle.jam_cli.specs.Command.{kinds};
-ghost use Rattle.jam_cli.specs.Parts.{asked, plain_files, inputs_in, plain_work, IsWork, NotAllSpelled};
+ghost use Rattle.jam_cli.specs.Parts.{asked, inputs_in, AreKept, WorkedOn};
 
 use crate::accumulate::accumulate;
 use crate::hash::hash;
@@ -12,7 +12,7 @@ use crate::number::Small;
 use crate::reads::File;
 use crate::refusal::Refusal;
 use crate::run::run;
-use crate::values::Contents;
+use crate::values::{Contents, Digest, Whole};
 use crate::words::Command;
 use std::alloc::Global;
 
@@ -30,32 +30,32 @@ pub struct Work<'a> {
     pub entry: Option<Entry<'a>>,
 }
 
-#[tactic(auto, using(std::proofs::lemmas::Result::err_from_is_err_and))]
+#[tactic(auto, using(std::proofs::lemmas::Result::err_from_is_err_and, crate::proofs::Carried::not_worked))]
 fn run_on<'a>(
     alloc: Global,
     blob: &'a str,
     gas: Small,
     files: &[File<'_>],
 ) -> Result<Work<'a>, Refusal>
-    requires { kinds (inputs_in files.now) ≡ kind.Program ∷ [] }
-    ensures made { IfOk result (λ work. IsWork (command the.Run (blob.now, (gas.value, tt))) (plain_files files.now) (plain_work work)) }
-    ensures refused { IfErr result (λ refusal. NotAllSpelled refusal (plain_files files.now)) }
+    requires kinds { kinds (inputs_in files.now) ≡ kind.Program ∷ [] }
+    requires kept { AreKept files.now }
+    ensures { WorkedOn (command the.Run (blob.now, (gas.value, tt))) files.now result }
 {
-    let (program, ()) = Contents::decode_all(alloc, files)?;
+    let (Whole(program), ()) = Contents::decode_all(alloc, files)?;
     Ok(run(alloc, program, gas)?)
 }
 
-#[tactic(auto, using(std::proofs::lemmas::Result::err_from_is_err_and))]
+#[tactic(auto, using(std::proofs::lemmas::Result::err_from_is_err_and, crate::proofs::Carried::not_worked))]
 fn hash_on<'a>(alloc: Global, file: &'a str, files: &[File<'_>]) -> Result<Work<'a>, Refusal>
-    requires { kinds (inputs_in files.now) ≡ kind.Bytes ∷ [] }
-    ensures made { IfOk result (λ work. IsWork (command the.Hash (file.now, tt)) (plain_files files.now) (plain_work work)) }
-    ensures refused { IfErr result (λ refusal. NotAllSpelled refusal (plain_files files.now)) }
+    requires kinds { kinds (inputs_in files.now) ≡ kind.Bytes ∷ [] }
+    requires kept { AreKept files.now }
+    ensures { WorkedOn (command the.Hash (file.now, tt)) files.now result }
 {
-    let (bytes, ()): (&[u8], ()) = Contents::decode_all(alloc, files)?;
-    Ok(hash(alloc, bytes)?)
+    let (Digest(digest), ()) = Contents::decode_all(alloc, files)?;
+    Ok(hash(alloc, digest)?)
 }
 
-#[tactic(auto, using(std::proofs::lemmas::Result::err_from_is_err_and))]
+#[tactic(auto, using(std::proofs::lemmas::Result::err_from_is_err_and, crate::proofs::Carried::not_worked))]
 fn accumulate_on<'a>(
     alloc: Global,
     state: &'a str,
@@ -64,11 +64,11 @@ fn accumulate_on<'a>(
     slice: u64,
     files: &[File<'_>],
 ) -> Result<Work<'a>, Refusal>
-    requires { kinds (inputs_in files.now) ≡ kind.State ∷ (kind.Batch ∷ []) }
-    ensures made { IfOk result (λ work. IsWork (command the.Accumulate (state.now, (batch.now, (posterior.now, (slice, tt))))) (plain_files files.now) (plain_work work)) }
-    ensures refused { IfErr result (λ refusal. NotAllSpelled refusal (plain_files files.now)) }
+    requires kinds { kinds (inputs_in files.now) ≡ kind.State ∷ (kind.Batch ∷ []) }
+    requires kept { AreKept files.now }
+    ensures { WorkedOn (command the.Accumulate (state.now, (batch.now, (posterior.now, (slice, tt))))) files.now result }
 {
-    let (prior, (batch, ())) = Contents::decode_all(alloc, files)?;
+    let (Whole(prior), (Whole(batch), ())) = Contents::decode_all(alloc, files)?;
     Ok(accumulate(alloc, &prior, &batch, posterior)?)
 }
 
@@ -78,9 +78,9 @@ pub fn work_of<'a>(
     command: Command<'a>,
     files: &[File<'_>],
 ) -> Result<Work<'a>, Refusal>
-    requires { kinds (inputs_in files.now) ≡ kinds (inputs (asked command)) }
-    ensures made { IfOk result (λ work. IsWork (asked command.entry) (plain_files files.now) (plain_work work)) }
-    ensures refused { IfErr result (λ refusal. NotAllSpelled refusal (plain_files files.now)) }
+    requires kinds { kinds (inputs_in files.now) ≡ kinds (inputs (asked command)) }
+    requires kept { AreKept files.now }
+    ensures { WorkedOn (asked command.entry) files.now result }
 {
     match command {
         Command::Run { blob, gas } => run_on(alloc, blob, gas, files),

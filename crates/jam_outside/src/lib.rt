@@ -7,6 +7,7 @@ mod mem_vault;
 mod sink;
 mod sure_sink;
 mod sure_vault;
+mod take;
 mod vault;
 mod whole;
 
@@ -15,5 +16,6 @@ pub use mem_vault::MemVault;
 pub use sink::Sink;
 pub use sure_sink::SureSink;
 pub use sure_vault::SureVault;
+pub use take::Take;
 pub use vault::{OutsideError, Vault};
-pub use whole::{ReadRefusal, read_whole};
+pub use whole::{ReadRefusal, read_into, read_whole};

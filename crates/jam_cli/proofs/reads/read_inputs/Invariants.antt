@@ -1,11 +1,10 @@
 use Rattle.std.proofs.Common.{◌≡◌, take}
-use Rattle.jam_cli.specs.Parts.{plains, plain_files, inputs_in}
-use Rattle.jam_cli.proofs.Inputs.{IsReadSoFar}
+use Rattle.jam_cli.specs.Parts.{plains, inputs_in, AreRead}
 use Rattle.jam_cli.proofs.reads.read_inputs.Given as goal
 
 abbrev pub invariant-loop-input : goal.invariant-loop-input
 invariant-loop-input g l = record {
   same : g.V.Vault.state l.vault ≡ g.V.Vault.state l.fn.vault;
   inputs : inputs_in l.all.items ≡ plains (take l.input-index l.inputs);
-  read : IsReadSoFar (g.V.Vault.state l.fn.vault).files (plains (take l.input-index l.inputs)) (plain_files l.all.items);
+  read : AreRead (g.V.Vault.state l.fn.vault).files (plains (take l.input-index l.inputs)) l.all.items;
 }

@@ -1,47 +1,54 @@
-use Rattle.std.proofs.Common.{◌∙◌, ap, subst}
+use Rattle.std.proofs.Common.{◌∙◌, ap, sym, subst}
 use Rattle.std.proofs.lemmas.Result.{err_from_is_err_and}
 use Rattle.jam_outside.specs.Causes.{Appends}
-use Rattle.jam_cli.specs.Parts.{asked, plains, plain_files, plain_work, NotAllSpelled, NotPrinted, IsWork, entry_stored}
-use Rattle.jam_cli.proofs.Carried.{inputs_plain, were_read, spell_ends, makes, print_ends, store_ends}
+use Rattle.jam_cli.specs.Parts.{asked, plains, plain_product, AreFiles, AreKept, NotPrinted, entry_stored}
+use Rattle.jam_cli.proofs.Carried.{were_read, spell_ends, makes, print_ends, store_ends}
 use Rattle.jam_cli.proofs.top.carry_out.Goals as goal
+
+pub work_of-requires-clause-kept : goal.work_of-requires-clause-kept
+work_of-requires-clause-kept g c = subst AreKept (sym c.deref-2.ensures.value) c.in_ok-files.ensures.keeps
 
 pub returns-in_err-work : goal.returns-in_err-work
 returns-in_err-work g c =
     let refused = err_from_is_err_and c.from_residual-in_err-work.result c.from_residual-in_err-work.ensures.1 in
-    let are = ap plains c.deref.ensures.value ∙ c.requires.0 in
-    rw (refused.1, refused.2) (spell_ends (asked c.args.line.now.command) c.in_err-work.field-0.0 (g.V.Vault.state c.args.vault.now) _ _ (plain_files c.in_ok-files.files.items)
-    (inputs_plain c.in_ok-files.files.items ∙ c.in_ok-files.ensures.inputs ∙ are) (were_read _ (g.V.Vault.state c.args.vault.now) _ (plain_files c.in_ok-files.files.items) are c.in_ok-files.ensures.read)
-    c.in_ok-files.ensures.kept (subst (λ fs. NotAllSpelled c.in_err-work.field-0.0 (plain_files fs)) c.deref-2.ensures.value c.in_err-work.ensures.refused))
+    let is = ap plains c.deref.ensures.value ∙ c.requires.0 in
+    let read = c.in_ok-files.ensures.read in
+    let are = subst (λ fs. AreFiles fs read.files) (sym c.deref-2.ensures.value) read.are in
+    rw (refused.1, refused.2) (spell_ends (asked c.args.line.now.command) c.in_err-work.field-0.0 (g.V.Vault.state c.args.vault.now) _ _ read.files
+    (read.inputs ∙ is) (were_read _ (g.V.Vault.state c.args.vault.now) _ read.files is read.read) c.in_ok-files.ensures.kept (c.in_err-work.ensures read.files are))
 
 pub returns-in_err-print : goal.returns-in_err-print
 returns-in_err-print g c =
     let refused = err_from_is_err_and c.from_residual-in_err-print.result c.from_residual-in_err-print.ensures.1 in
-    let are = ap plains c.deref.ensures.value ∙ c.requires.0 in
-    let made = makes (asked c.args.line.now.command) (g.V.Vault.state c.args.vault.now) (plain_files c.in_ok-files.files.items) (plain_work c.in_ok-work.work)
-    (were_read _ (g.V.Vault.state c.args.vault.now) _ (plain_files c.in_ok-files.files.items) are c.in_ok-files.ensures.read)
-    (subst (λ fs. IsWork (asked c.args.line.now.command) (plain_files fs) (plain_work c.in_ok-work.work)) c.deref-2.ensures.value c.in_ok-work.ensures.made) in
-    rw (refused.1, refused.2) (print_ends (asked c.args.line.now.command) c.in_err-print.field-0.0 (g.V.Vault.state c.args.vault.now) _ _ _ (plain_work c.in_ok-work.work) made c.in_ok-files.ensures.kept
+    let is = ap plains c.deref.ensures.value ∙ c.requires.0 in
+    let read = c.in_ok-files.ensures.read in
+    let are = subst (λ fs. AreFiles fs read.files) (sym c.deref-2.ensures.value) read.are in
+    let made = makes (asked c.args.line.now.command) (g.V.Vault.state c.args.vault.now) read.files (plain_product c.in_ok-work.work)
+    (were_read _ (g.V.Vault.state c.args.vault.now) _ read.files is read.read) (c.in_ok-work.ensures read.files are) in
+    rw (refused.1, refused.2) (print_ends (asked c.args.line.now.command) c.in_err-print.field-0.0 (g.V.Vault.state c.args.vault.now) _ _ _ (plain_product c.in_ok-work.work) made c.in_ok-files.ensures.kept
     (subst (λ text. NotPrinted c.in_err-print.field-0.0 (g.S.Sink.state c.args.out.now) (g.S.Sink.state c.print.new.out) text) c.deref-3.ensures.value c.in_err-print.ensures.refused))
 
 pub returns-in_err-store : goal.returns-in_err-store
 returns-in_err-store g c =
     let refused = err_from_is_err_and c.from_residual-in_err-store.result c.from_residual-in_err-store.ensures.1 in
-    let are = ap plains c.deref.ensures.value ∙ c.requires.0 in
-    let made = makes (asked c.args.line.now.command) (g.V.Vault.state c.args.vault.now) (plain_files c.in_ok-files.files.items) (plain_work c.in_ok-work.work)
-    (were_read _ (g.V.Vault.state c.args.vault.now) _ (plain_files c.in_ok-files.files.items) are c.in_ok-files.ensures.read)
-    (subst (λ fs. IsWork (asked c.args.line.now.command) (plain_files fs) (plain_work c.in_ok-work.work)) c.deref-2.ensures.value c.in_ok-work.ensures.made) in
-    rw (refused.1, refused.2) (store_ends (asked c.args.line.now.command) c.in_err-store.field-0.0 (g.V.Vault.state c.args.vault.now) _ _ _ _ (plain_work c.in_ok-work.work) made c.in_ok-files.ensures.kept
+    let is = ap plains c.deref.ensures.value ∙ c.requires.0 in
+    let read = c.in_ok-files.ensures.read in
+    let are = subst (λ fs. AreFiles fs read.files) (sym c.deref-2.ensures.value) read.are in
+    let made = makes (asked c.args.line.now.command) (g.V.Vault.state c.args.vault.now) read.files (plain_product c.in_ok-work.work)
+    (were_read _ (g.V.Vault.state c.args.vault.now) _ read.files is read.read) (c.in_ok-work.ensures read.files are) in
+    rw (refused.1, refused.2) (store_ends (asked c.args.line.now.command) c.in_err-store.field-0.0 (g.V.Vault.state c.args.vault.now) _ _ _ _ (plain_product c.in_ok-work.work) made c.in_ok-files.ensures.kept
     (subst (λ text. Appends (g.S.Sink.state c.args.out.now).taken (g.S.Sink.state c.print.new.out).taken text) c.deref-3.ensures.value c.in_ok-print.ensures.all) c.in_ok-print.ensures.kept
     c.in_err-store.ensures.refused)
 
 pub returns : goal.returns
 returns g c =
-    let are = ap plains c.deref.ensures.value ∙ c.requires.0 in
-    let made = makes (asked c.args.line.now.command) (g.V.Vault.state c.args.vault.now) (plain_files c.in_ok-files.files.items) (plain_work c.in_ok-work.work)
-    (were_read _ (g.V.Vault.state c.args.vault.now) _ (plain_files c.in_ok-files.files.items) are c.in_ok-files.ensures.read)
-    (subst (λ fs. IsWork (asked c.args.line.now.command) (plain_files fs) (plain_work c.in_ok-work.work)) c.deref-2.ensures.value c.in_ok-work.ensures.made) in (
-      plain_work c.in_ok-work.work,
+    let is = ap plains c.deref.ensures.value ∙ c.requires.0 in
+    let read = c.in_ok-files.ensures.read in
+    let are = subst (λ fs. AreFiles fs read.files) (sym c.deref-2.ensures.value) read.are in
+    let made = makes (asked c.args.line.now.command) (g.V.Vault.state c.args.vault.now) read.files (plain_product c.in_ok-work.work)
+    (were_read _ (g.V.Vault.state c.args.vault.now) _ read.files is read.read) (c.in_ok-work.ensures read.files are) in (
+      plain_product c.in_ok-work.work,
       made,
       (subst (λ text. Appends (g.S.Sink.state c.args.out.now).taken (g.S.Sink.state c.print.new.out).taken text) c.deref-3.ensures.value c.in_ok-print.ensures.all, c.in_ok-print.ensures.kept),
-      c.in_ok-store.ensures.all ∙ ap (entry_stored (plain_work c.in_ok-work.work).entry) c.in_ok-files.ensures.kept,
+      c.in_ok-store.ensures.all ∙ ap (entry_stored (plain_product c.in_ok-work.work).entry) c.in_ok-files.ensures.kept,
     )

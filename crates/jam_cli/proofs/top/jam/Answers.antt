@@ -1,5 +1,5 @@
 -- Each clause follows from how the call ends, whatever the command.
-use Rattle.jam_cli.proofs.Endings.{done_means, bad_words_means, bad_words_comes, read_fault_means, too_long_means, too_long_comes, refused_means, refused_comes, sink_fault_means, store_fault_means, no_memory_means, silent_means, others_keep_files, inputs_kept, counts_faults, keeps_names, counts_stores, served_is_done}
+use Rattle.jam_cli.proofs.Endings.{done_means, bad_words_means, bad_words_comes, read_fault_means, too_long_means, too_long_comes, refused_means, refused_comes, bad_line_means, bad_line_comes, sink_fault_means, store_fault_means, no_memory_means, silent_means, others_keep_files, inputs_kept, counts_faults, keeps_names, counts_stores, served_is_done}
 use Rattle.jam_cli.proofs.top.jam.Goals as goal
 
 pub returns-clause-done : goal.returns-clause-done
@@ -25,6 +25,12 @@ returns-clause-refused g c = rw (c.status_of.ensures) (refused_means c.serve.res
 
 pub returns-clause-refused_where : goal.returns-clause-refused_where
 returns-clause-refused_where g c = rw (c.status_of.ensures) (refused_comes c.serve.result _ _ c.serve.ensures)
+
+pub returns-clause-bad_line : goal.returns-clause-bad_line
+returns-clause-bad_line g c = rw (c.status_of.ensures) (bad_line_means c.serve.result _ _ c.serve.ensures)
+
+pub returns-clause-bad_line_where : goal.returns-clause-bad_line_where
+returns-clause-bad_line_where g c = rw (c.status_of.ensures) (bad_line_comes c.command_laws.ensures.values c.serve.result _ _ c.serve.ensures)
 
 pub returns-clause-sink_fault : goal.returns-clause-sink_fault
 returns-clause-sink_fault g c = rw (c.status_of.ensures) (sink_fault_means c.serve.result _ _ c.serve.ensures)
@@ -54,4 +60,4 @@ pub returns-clause-stores : goal.returns-clause-stores
 returns-clause-stores g c = rw (c.status_of.ensures) (counts_stores c.serve.result _ _ c.serve.ensures)
 
 pub returns-clause-complete : goal.returns-clause-complete
-returns-clause-complete g c = rw (c.status_of.ensures) (served_is_done c.serve.result _ _ c.serve.ensures)
+returns-clause-complete g c = rw (c.status_of.ensures) (served_is_done c.command_laws.ensures.values c.serve.result _ _ c.serve.ensures)

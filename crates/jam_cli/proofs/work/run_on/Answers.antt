@@ -1,4 +1,4 @@
 use Rattle.jam_cli.proofs.work.run_on.Goals as goal
 
-pub returns-clause-made : goal.returns-clause-made
-returns-clause-made c = ((c.in_ok-program.program, tt), c.in_ok-program.ensures.spelled, c.in_ok-run.ensures)
+pub returns : goal.returns
+returns c = λ files are. (_, (c.in_ok-program.ensures.spelled files are).1, c.in_ok-run.ensures)

@@ -1,12 +1,12 @@
-use Rattle.std.proofs.Common.{sym, subst, IfOk}
-use Rattle.jam_cli.specs.Parts.{asked, plain_files, plain_work, IsWork}
+use Rattle.std.proofs.Common.{sym, subst}
+use Rattle.jam_cli.specs.Parts.{asked, WorkedOn}
 use Rattle.jam_cli.proofs.work.work_of.Goals as goal
 
-pub returns-in-Run-clause-made : goal.returns-in-Run-clause-made
-returns-in-Run-clause-made c = subst (λ command. IfOk c.run_on.result (λ work. IsWork (asked command) (plain_files c.args.files.now) (plain_work work))) (sym c.in-Run.is) c.run_on.ensures.made
+pub returns-in-Run : goal.returns-in-Run
+returns-in-Run c = subst (λ command. WorkedOn (asked command) c.args.files.now c.run_on.result) (sym c.in-Run.is) c.run_on.ensures
 
-pub returns-in-Hash-clause-made : goal.returns-in-Hash-clause-made
-returns-in-Hash-clause-made c = subst (λ command. IfOk c.hash_on.result (λ work. IsWork (asked command) (plain_files c.args.files.now) (plain_work work))) (sym c.in-Hash.is) c.hash_on.ensures.made
+pub returns-in-Hash : goal.returns-in-Hash
+returns-in-Hash c = subst (λ command. WorkedOn (asked command) c.args.files.now c.hash_on.result) (sym c.in-Hash.is) c.hash_on.ensures
 
-pub returns-in-Accumulate-clause-made : goal.returns-in-Accumulate-clause-made
-returns-in-Accumulate-clause-made c = subst (λ command. IfOk c.accumulate_on.result (λ work. IsWork (asked command) (plain_files c.args.files.now) (plain_work work))) (sym c.in-Accumulate.is) c.accumulate_on.ensures.made
+pub returns-in-Accumulate : goal.returns-in-Accumulate
+returns-in-Accumulate c = subst (λ command. WorkedOn (asked command) c.args.files.now c.accumulate_on.result) (sym c.in-Accumulate.is) c.accumulate_on.ensures
