@@ -9,6 +9,7 @@ ghost use Rattle.pvm_step.specs.History.{cost_of, step, reached, output};
 ghost use Rattle.pvm_step.specs.Machine.{IsAt, ChangesStateAlone, state_of, after_of, moment, with_gas, exit_in, exit_after, is_done};
 ghost use Rattle.pvm_step.specs.Named.{on_registers, changes_memory};
 ghost use Rattle.pvm_step.specs.declared.attempt.Attempt.TheVariants.{Next};
+ghost use Rattle.pvm_step.specs.declared.exit.Exit.TheVariants.{OutOfGas};
 
 use crate::at::At;
 use crate::attempt::Attempt;
@@ -49,6 +50,15 @@ fn zeros(alloc: Global, count: u64) -> Result<Vec<u8>, AllocError>
     ensures { IfOk result (λ bytes. length bytes.items ≡ count) }
 {
     vec![in alloc; 0u8; count as usize]
+}
+
+// The exit where the gas does not pay. It is out of the way, so that the compiler expects the loop of a run to go on.
+#[cold]
+#[inline(never)]
+fn out_of_gas() -> Exit
+    ensures { result ≡ OutOfGas }
+{
+    Exit::OutOfGas
 }
 
 impl Machine {
@@ -182,7 +192,7 @@ impl Machine {
             };
             let cost = self.cost::<PLAIN>(at.op);
             if left < cost {
-                return (0, Ok(Some(Exit::OutOfGas)));
+                return (0, Ok(Some(out_of_gas())));
             }
             match self.attempt(at) {
                 Attempt::Next => pc = at.next,
