@@ -4,7 +4,6 @@ use Rattle.std.specs.Coded.{Coded, code_by, coded×, coded_ℕ, coded_bool, code
 use Rattle.gas_ledger.specs.Schedule.{Schedule, schedule_code}
 use Rattle.pvm_isa.specs.Arguments.{IsWindow}
 use Rattle.blob_decode.specs.Program.{Program, next, skip}
-use Rattle.pvm_step.specs.declared.at.At.{At}
 use Rattle.paged_memory.specs.PageMap.{Memory}
 use Rattle.paged_memory.specs.Codes.{memory_code}
 use Rattle.pvm_step.specs.declared.exit.Exit.{Exit}
@@ -26,14 +25,14 @@ pub record Machine : Type 0 where
   pub gas : ℕ
   pub costs : Schedule
 
--- this is where the machine stands, within the code, and what is read there
-pub record IsAt (at : At) (m : Machine) : Type 0 where
-  pub here : at.pc ≡ m.pc
+-- this is where the machine stands, within the code, and what is fetched there
+pub record IsAt (pc after_it skipped bytes : ℕ) (m : Machine) : Type 0 where
+  pub here : pc ≡ m.pc
   pub within : m.pc < length m.program.code
-  pub next : at.found.next ≡ next m.program m.pc
-  pub skip : at.found.skip ≡ skip m.program m.pc
-  pub short : at.found.skip ≤ 24
-  pub window : IsWindow m.program.code m.pc at.found.bytes
+  pub next : after_it ≡ next m.program m.pc
+  pub skip : skipped ≡ skip m.program m.pc
+  pub short : skipped ≤ 24
+  pub window : IsWindow m.program.code m.pc bytes
 
 -- what instructions leave: the program, the gas and the schedule
 pub record ChangesStateAlone (m n : Machine) : Type 0 where

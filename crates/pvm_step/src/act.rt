@@ -18,30 +18,90 @@ impl Machine {
     #[inline(always)]
     #[tactic(auto, unfolding(crate::specs::Effect::line, crate::specs::Named::on_registers, pvm_isa::specs::Opcodes::entry, pvm_alu::specs::Alu::binary_line, pvm_alu::specs::Alu::unary_line, pvm_alu::specs::Alu::test_line))]
     pub(crate) fn act_on_registers(&mut self, at: At) -> Attempt
-        requires at { IsAt at self.old }
-        ensures acts { is_done result ≡ true → after_of self.new (exit_after result) ≡ outcome at.found.op self.old.program (state_of self.old) }
+        requires at { IsAt at.pc at.next at.skip at.bytes self.old }
+        ensures acts { is_done result ≡ true → after_of self.new (exit_after result) ≡ outcome at.op self.old.program (state_of self.old) }
         ensures next { result ≡ Next → self.new.pc ≡ blob.next self.old.program self.old.pc }
-        ensures done { is_done result ≡ on_registers at.found.op }
+        ensures done { is_done result ≡ on_registers at.op }
         ensures same { result ≡ Attempt.Beyond → self.new ≡ self.old }
         ensures rest { ChangesStateAlone self.old self.new }
     {
-        match at.found.op {
+        match at.op {
             Op::Trap => Attempt::Panics,
             Op::Fallthrough => self.fall_through(at),
-            Op::LoadImm64 => self.load_imm_64(at),
-            Op::Jump => self.jump_on(at),
-            Op::LoadImm => self.load_imm(at),
-            Op::LoadImmJump => self.load_imm_jump(at),
-            Op::BranchEqImm => self.branch_on_a_x(Op::BranchEqImm, at),
-            Op::BranchNeImm => self.branch_on_a_x(Op::BranchNeImm, at),
-            Op::BranchLtUImm => self.branch_on_a_x(Op::BranchLtUImm, at),
-            Op::BranchLeUImm => self.branch_on_a_x(Op::BranchLeUImm, at),
-            Op::BranchGeUImm => self.branch_on_a_x(Op::BranchGeUImm, at),
-            Op::BranchGtUImm => self.branch_on_a_x(Op::BranchGtUImm, at),
-            Op::BranchLtSImm => self.branch_on_a_x(Op::BranchLtSImm, at),
-            Op::BranchLeSImm => self.branch_on_a_x(Op::BranchLeSImm, at),
-            Op::BranchGeSImm => self.branch_on_a_x(Op::BranchGeSImm, at),
-            Op::BranchGtSImm => self.branch_on_a_x(Op::BranchGtSImm, at),
+            Op::LoadImm64 => self.load_imm_64(at.pc, at.next, at.skip, at.bytes),
+            Op::Jump => self.jump_on(at.pc, at.next, at.skip, at.bytes),
+            Op::LoadImm => self.load_imm(at.pc, at.next, at.skip, at.bytes),
+            Op::LoadImmJump => self.load_imm_jump(at.pc, at.next, at.skip, at.bytes),
+            Op::BranchEqImm => self.branch_on_a_x(
+                Op::BranchEqImm,
+                at.pc,
+                at.next,
+                at.skip,
+                at.bytes,
+            ),
+            Op::BranchNeImm => self.branch_on_a_x(
+                Op::BranchNeImm,
+                at.pc,
+                at.next,
+                at.skip,
+                at.bytes,
+            ),
+            Op::BranchLtUImm => self.branch_on_a_x(
+                Op::BranchLtUImm,
+                at.pc,
+                at.next,
+                at.skip,
+                at.bytes,
+            ),
+            Op::BranchLeUImm => self.branch_on_a_x(
+                Op::BranchLeUImm,
+                at.pc,
+                at.next,
+                at.skip,
+                at.bytes,
+            ),
+            Op::BranchGeUImm => self.branch_on_a_x(
+                Op::BranchGeUImm,
+                at.pc,
+                at.next,
+                at.skip,
+                at.bytes,
+            ),
+            Op::BranchGtUImm => self.branch_on_a_x(
+                Op::BranchGtUImm,
+                at.pc,
+                at.next,
+                at.skip,
+                at.bytes,
+            ),
+            Op::BranchLtSImm => self.branch_on_a_x(
+                Op::BranchLtSImm,
+                at.pc,
+                at.next,
+                at.skip,
+                at.bytes,
+            ),
+            Op::BranchLeSImm => self.branch_on_a_x(
+                Op::BranchLeSImm,
+                at.pc,
+                at.next,
+                at.skip,
+                at.bytes,
+            ),
+            Op::BranchGeSImm => self.branch_on_a_x(
+                Op::BranchGeSImm,
+                at.pc,
+                at.next,
+                at.skip,
+                at.bytes,
+            ),
+            Op::BranchGtSImm => self.branch_on_a_x(
+                Op::BranchGtSImm,
+                at.pc,
+                at.next,
+                at.skip,
+                at.bytes,
+            ),
             Op::MoveReg => self.move_reg(at),
             Op::CountSetBits64 => self.give_of_a(Op::CountSetBits64, at),
             Op::CountSetBits32 => self.give_of_a(Op::CountSetBits32, at),
@@ -69,8 +129,8 @@ impl Machine {
             Op::ShloLImmAlt32 => self.give_of_b_x(Op::ShloLImmAlt32, at),
             Op::ShloRImmAlt32 => self.give_of_b_x(Op::ShloRImmAlt32, at),
             Op::SharRImmAlt32 => self.give_of_b_x(Op::SharRImmAlt32, at),
-            Op::CmovIzImm => self.cmov_iz_imm(at),
-            Op::CmovNzImm => self.cmov_nz_imm(at),
+            Op::CmovIzImm => self.cmov_iz_imm(at.pc, at.next, at.skip, at.bytes),
+            Op::CmovNzImm => self.cmov_nz_imm(at.pc, at.next, at.skip, at.bytes),
             Op::AddImm64 => self.give_of_b_x(Op::AddImm64, at),
             Op::MulImm64 => self.give_of_b_x(Op::MulImm64, at),
             Op::ShloLImm64 => self.give_of_b_x(Op::ShloLImm64, at),
@@ -84,12 +144,12 @@ impl Machine {
             Op::RotR64ImmAlt => self.give_of_b_x(Op::RotR64ImmAlt, at),
             Op::RotR32Imm => self.give_of_b_x(Op::RotR32Imm, at),
             Op::RotR32ImmAlt => self.give_of_b_x(Op::RotR32ImmAlt, at),
-            Op::BranchEq => self.branch_on_a_b(Op::BranchEq, at),
-            Op::BranchNe => self.branch_on_a_b(Op::BranchNe, at),
-            Op::BranchLtU => self.branch_on_a_b(Op::BranchLtU, at),
-            Op::BranchLtS => self.branch_on_a_b(Op::BranchLtS, at),
-            Op::BranchGeU => self.branch_on_a_b(Op::BranchGeU, at),
-            Op::BranchGeS => self.branch_on_a_b(Op::BranchGeS, at),
+            Op::BranchEq => self.branch_on_a_b(Op::BranchEq, at.pc, at.next, at.skip, at.bytes),
+            Op::BranchNe => self.branch_on_a_b(Op::BranchNe, at.pc, at.next, at.skip, at.bytes),
+            Op::BranchLtU => self.branch_on_a_b(Op::BranchLtU, at.pc, at.next, at.skip, at.bytes),
+            Op::BranchLtS => self.branch_on_a_b(Op::BranchLtS, at.pc, at.next, at.skip, at.bytes),
+            Op::BranchGeU => self.branch_on_a_b(Op::BranchGeU, at.pc, at.next, at.skip, at.bytes),
+            Op::BranchGeS => self.branch_on_a_b(Op::BranchGeS, at.pc, at.next, at.skip, at.bytes),
             Op::Add32 => self.give_of_a_b(Op::Add32, at),
             Op::Sub32 => self.give_of_a_b(Op::Sub32, at),
             Op::Mul32 => self.give_of_a_b(Op::Mul32, at),
@@ -138,15 +198,29 @@ impl Machine {
     /// What another opcode does at the pc.
     #[inline(never)]
     #[tactic(auto, unfolding(crate::specs::Effect::outcome, crate::specs::Effect::line, crate::specs::Effect::after, crate::specs::Named::on_registers, pvm_isa::specs::Opcodes::entry, pvm_alu::specs::Alu::widen_line, pvm_alu::specs::Alu::loaded_bytes))]
-    pub(crate) fn act_beyond(&mut self, at: At) -> Result<Option<Exit>, AllocError>
-        requires at { IsAt at self.old }
-        requires kind { on_registers at.found.op ≡ false }
-        ensures acts { IfOk result (λ exit. after_of self.new exit ≡ outcome at.found.op self.old.program (state_of self.old)) }
+    pub(crate) fn act_beyond(
+        &mut self,
+        op: Op,
+        pc: u64,
+        next: u64,
+        skip: u8,
+        bytes: u64,
+    ) -> Result<Option<Exit>, AllocError>
+        requires at { IsAt pc next skip bytes self.old }
+        requires kind { on_registers op ≡ false }
+        ensures acts { IfOk result (λ exit. after_of self.new exit ≡ outcome op self.old.program (state_of self.old)) }
         ensures rest { ChangesStateAlone self.old self.new }
         ensures err { OnErr result (self.new ≡ self.old) }
-        ensures wants { OnErr result (changes_memory (act_of at.found.op self.old.program (state_of self.old)) ≡ true) }
+        ensures wants { OnErr result (changes_memory (act_of op self.old.program (state_of self.old)) ≡ true) }
     {
-        match at.found.op {
+        let at = At {
+            op,
+            pc,
+            next,
+            skip,
+            bytes,
+        };
+        match op {
             Op::Ecalli => Ok(self.call_host(at)),
             Op::StoreImmU8 => self.store_y_at_x(1, at),
             Op::StoreImmU16 => self.store_y_at_x(2, at),

@@ -29,14 +29,14 @@ impl Machine {
     #[inline(always)]
     #[tactic(auto, unfolding(crate::specs::Effect::outcome, crate::specs::Effect::line, crate::specs::Effect::after, pvm_isa::specs::Opcodes::entry))]
     pub(crate) fn fall_through(&mut self, at: At) -> Attempt
-        requires at { IsAt at self.old }
+        requires at { IsAt at.pc at.next at.skip at.bytes self.old }
         ensures acts { after_of self.new (exit_after result) ≡ outcome Fallthrough self.old.program (state_of self.old) }
         ensures next { result ≡ Next → self.new.pc ≡ blob.next self.old.program self.old.pc }
         ensures done { is_done result ≡ true }
         ensures rest { ChangesStateAlone self.old self.new }
     {
         let _code = self.program.code();
-        self.go_on(at.found.next);
+        self.go_on(at.next);
         Attempt::Next
     }
 
@@ -44,25 +44,25 @@ impl Machine {
     #[inline(always)]
     #[tactic(auto, unfolding(crate::specs::Effect::after))]
     pub(crate) fn call_host(&mut self, at: At) -> Option<Exit>
-        requires at { IsAt at self.old }
-        ensures acts { after_of self.new result ≡ after self.old.program (state_of self.old) (Exits (Host (arguments F2 self.old.program.code self.old.pc at.found.skip).x)) }
+        requires at { IsAt at.pc at.next at.skip at.bytes self.old }
+        ensures acts { after_of self.new result ≡ after self.old.program (state_of self.old) (Exits (Host (arguments F2 self.old.program.code self.old.pc at.skip).x)) }
         ensures rest { ChangesStateAlone self.old self.new }
     {
-        let args = one_immediate(self.program.code(), at.pc, at.found.skip);
+        let args = one_immediate(self.program.code(), at.pc, at.skip);
         Some(Exit::Host(args.x))
     }
 
     /// A jump.
     #[inline(never)]
     #[tactic(auto, unfolding(crate::specs::Effect::outcome, crate::specs::Effect::line, crate::specs::Effect::after, pvm_isa::specs::Opcodes::entry))]
-    pub(crate) fn jump_on(&mut self, at: At) -> Attempt
-        requires at { IsAt at self.old }
+    pub(crate) fn jump_on(&mut self, pc: u64, next: u64, skip: u8, bytes: u64) -> Attempt
+        requires at { IsAt pc next skip bytes self.old }
         ensures acts { after_of self.new (exit_after result) ≡ outcome Jump self.old.program (state_of self.old) }
         ensures next { result ≡ Next → self.new.pc ≡ blob.next self.old.program self.old.pc }
         ensures done { is_done result ≡ true }
         ensures rest { ChangesStateAlone self.old self.new }
     {
-        let args = one_offset(self.program.code(), at.pc, at.found.skip);
+        let args = one_offset(self.program.code(), pc, skip);
         self.jump(args.target)
     }
 
@@ -70,12 +70,12 @@ impl Machine {
     #[inline(never)]
     #[tactic(auto, unfolding(crate::specs::Effect::after))]
     pub(crate) fn jump_ind(&mut self, at: At) -> Result<Option<Exit>, AllocError>
-        requires at { IsAt at self.old }
-        ensures acts { IfOk result (λ exit. after_of self.new exit ≡ after self.old.program (state_of self.old) (JumpsThrough (address ((value_in (state_of self.old) (arguments F6 self.old.program.code self.old.pc at.found.skip).a) + (arguments F6 self.old.program.code self.old.pc at.found.skip).x)))) }
+        requires at { IsAt at.pc at.next at.skip at.bytes self.old }
+        ensures acts { IfOk result (λ exit. after_of self.new exit ≡ after self.old.program (state_of self.old) (JumpsThrough (address ((value_in (state_of self.old) (arguments F6 self.old.program.code self.old.pc at.skip).a) + (arguments F6 self.old.program.code self.old.pc at.skip).x)))) }
         ensures made { IsOk result }
         ensures rest { ChangesStateAlone self.old self.new }
     {
-        let args = register_and_immediate(self.program.code(), at.pc, at.found.skip);
+        let args = register_and_immediate(self.program.code(), at.pc, at.skip);
         let through = address_from(self.value(args.a), args.x);
         Ok(self.jump_through(through))
     }
@@ -83,14 +83,14 @@ impl Machine {
     /// A jump, after a register got an immediate.
     #[inline(never)]
     #[tactic(auto, unfolding(crate::specs::Effect::outcome, crate::specs::Effect::line, crate::specs::Effect::after, pvm_isa::specs::Opcodes::entry))]
-    pub(crate) fn load_imm_jump(&mut self, at: At) -> Attempt
-        requires at { IsAt at self.old }
+    pub(crate) fn load_imm_jump(&mut self, pc: u64, next: u64, skip: u8, bytes: u64) -> Attempt
+        requires at { IsAt pc next skip bytes self.old }
         ensures acts { after_of self.new (exit_after result) ≡ outcome LoadImmJump self.old.program (state_of self.old) }
         ensures next { result ≡ Next → self.new.pc ≡ blob.next self.old.program self.old.pc }
         ensures done { is_done result ≡ true }
         ensures rest { ChangesStateAlone self.old self.new }
     {
-        let args = register_immediate_and_offset(self.program.code(), at.pc, at.found.skip);
+        let args = register_immediate_and_offset(self.program.code(), pc, skip);
         let target = args.target;
         self.set(args.a, args.x);
         self.jump(target)
@@ -100,12 +100,12 @@ impl Machine {
     #[inline(never)]
     #[tactic(auto, unfolding(crate::specs::Effect::after))]
     pub(crate) fn load_imm_jump_ind(&mut self, at: At) -> Result<Option<Exit>, AllocError>
-        requires at { IsAt at self.old }
-        ensures acts { IfOk result (λ exit. after_of self.new exit ≡ after self.old.program (state_of self.old) (GivesAndJumpsThrough (arguments F12 self.old.program.code self.old.pc at.found.skip).a (arguments F12 self.old.program.code self.old.pc at.found.skip).x (address ((value_in (state_of self.old) (arguments F12 self.old.program.code self.old.pc at.found.skip).b) + (arguments F12 self.old.program.code self.old.pc at.found.skip).y)))) }
+        requires at { IsAt at.pc at.next at.skip at.bytes self.old }
+        ensures acts { IfOk result (λ exit. after_of self.new exit ≡ after self.old.program (state_of self.old) (GivesAndJumpsThrough (arguments F12 self.old.program.code self.old.pc at.skip).a (arguments F12 self.old.program.code self.old.pc at.skip).x (address ((value_in (state_of self.old) (arguments F12 self.old.program.code self.old.pc at.skip).b) + (arguments F12 self.old.program.code self.old.pc at.skip).y)))) }
         ensures made { IsOk result }
         ensures rest { ChangesStateAlone self.old self.new }
     {
-        let args = two_registers_and_two_immediates(self.program.code(), at.pc, at.found.skip);
+        let args = two_registers_and_two_immediates(self.program.code(), at.pc, at.skip);
         let by = address_from(self.value(args.b), args.y);
         self.set(args.a, args.x);
         Ok(self.jump_through(by))
@@ -113,33 +113,42 @@ impl Machine {
 
     /// A branch on the value of a register and an immediate.
     #[inline(never)]
-    pub(crate) fn branch_on_a_x(&mut self, op: Op, at: At) -> Attempt
+    pub(crate) fn branch_on_a_x(
+        &mut self,
+        op: Op,
+        pc: u64,
+        next: u64,
+        skip: u8,
+        bytes: u64,
+    ) -> Attempt
         requires line { line op ≡ branches_on_a_x op }
         requires form { form_of op ≡ F8 }
         requires operation { IsTrue (alu.is_test op) }
-        requires at { IsAt at self.old }
+        requires at { IsAt pc next skip bytes self.old }
         ensures acts { after_of self.new (exit_after result) ≡ outcome op self.old.program (state_of self.old) }
         ensures next { result ≡ Next → self.new.pc ≡ blob.next self.old.program self.old.pc }
         ensures done { is_done result ≡ true }
         ensures rest { ChangesStateAlone self.old self.new }
     {
-        let args = register_immediate_and_offset_in(
-            self.program.code(),
-            at.found.bytes,
-            at.pc,
-            at.found.skip,
-        );
+        let args = register_immediate_and_offset_in(self.program.code(), bytes, pc, skip);
         let taken = test(op, self.value(args.a), args.x);
-        self.branch(taken, args.target, at.found.next)
+        self.branch(taken, args.target, next)
     }
 
     /// A branch on the values of two registers.
     #[inline(never)]
-    pub(crate) fn branch_on_a_b(&mut self, op: Op, at: At) -> Attempt
+    pub(crate) fn branch_on_a_b(
+        &mut self,
+        op: Op,
+        pc: u64,
+        next: u64,
+        skip: u8,
+        bytes: u64,
+    ) -> Attempt
         requires line { line op ≡ branches_on_a_b op }
         requires form { form_of op ≡ F11 }
         requires operation { IsTrue (alu.is_test op) }
-        requires at { IsAt at self.old }
+        requires at { IsAt pc next skip bytes self.old }
         ensures acts { after_of self.new (exit_after result) ≡ outcome op self.old.program (state_of self.old) }
         ensures next { result ≡ Next → self.new.pc ≡ blob.next self.old.program self.old.pc }
         ensures done { is_done result ≡ true }
@@ -147,8 +156,8 @@ impl Machine {
     {
         // The code is shorter than 2^63.
         let _code = self.program.code();
-        let args = two_registers_and_offset_in(at.found.bytes, at.pc, at.found.skip);
+        let args = two_registers_and_offset_in(bytes, pc, skip);
         let taken = test(op, self.value(args.a), self.value(args.b));
-        self.branch(taken, args.target, at.found.next)
+        self.branch(taken, args.target, next)
     }
 }

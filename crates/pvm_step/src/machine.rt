@@ -9,13 +9,14 @@ ghost use Rattle.pvm_step.specs.History.{cost_of, step, reached, output};
 ghost use Rattle.pvm_step.specs.Machine.{IsAt, ChangesStateAlone, state_of, after_of, moment, with_gas, exit_in, exit_after, is_done};
 ghost use Rattle.pvm_step.specs.Named.{on_registers, changes_memory};
 ghost use Rattle.pvm_step.specs.declared.attempt.Attempt.TheVariants.{Next};
+ghost use Rattle.pvm_step.specs.declared.exit.Exit.TheVariants.{OutOfGas};
 
 use crate::at::At;
 use crate::attempt::Attempt;
 use crate::exit::{Exit, Progress};
 use crate::form::number_of_form;
 use crate::heap::Heap;
-use blob_decode::Program;
+use blob_decode::{Fetched, Program};
 use gas_ledger::{Ledger, Schedule};
 use paged_memory::Memory;
 use pvm_isa::{Op, form_of};
@@ -51,6 +52,15 @@ fn zeros(alloc: Global, count: u64) -> Result<Vec<u8>, AllocError>
     vec![in alloc; 0u8; count as usize]
 }
 
+// The exit where the gas does not pay. It is out of the way, so that the compiler expects the loop of a run to go on.
+#[cold]
+#[inline(never)]
+fn out_of_gas() -> Exit
+    ensures { result ≡ OutOfGas }
+{
+    Exit::OutOfGas
+}
+
 impl Machine {
     /// A machine at a place, with registers 0, a memory without rights, no heap, and the plain
     /// schedule.
@@ -80,11 +90,24 @@ impl Machine {
     fn look(&self, pc: u64) -> Option<At>
         requires { pc ≡ self.now.pc }
         ensures past { IfNone result (length self.now.program.code ≤ self.now.pc) }
-        ensures op { IfSome result (λ at. at.found.op ≡ op_at self.now.program self.now.pc) }
-        ensures at { IfSome result (λ at. IsAt at self.now) }
+        ensures op { IfSome result (λ at. at.op ≡ op_at self.now.program self.now.pc) }
+        ensures at { IfSome result (λ at. IsAt at.pc at.next at.skip at.bytes self.now) }
     {
         match self.program.fetch(pc) {
-            Some(found) => Some(At { pc, found }),
+            Some(
+                Fetched {
+                    op,
+                    skip,
+                    next,
+                    bytes,
+                },
+            ) => Some(At {
+                op,
+                pc,
+                next,
+                skip,
+                bytes,
+            }),
             None => None,
         }
     }
@@ -93,12 +116,12 @@ impl Machine {
     #[inline(always)]
     #[tactic(auto, unfolding(crate::specs::Effect::effect))]
     fn attempt(&mut self, at: At) -> Attempt
-        requires op { at.found.op ≡ op_at self.old.program self.old.pc }
-        requires at { IsAt at self.old }
+        requires op { at.op ≡ op_at self.old.program self.old.pc }
+        requires at { IsAt at.pc at.next at.skip at.bytes self.old }
         ensures made { is_done result ≡ true → after_of self.new (exit_after result) ≡ effect self.old.program (state_of self.old) }
-        ensures next { result ≡ Next → self.new.pc ≡ at.found.next }
+        ensures next { result ≡ Next → self.new.pc ≡ at.next }
         ensures same { result ≡ Attempt.Beyond → self.new ≡ self.old }
-        ensures kind { result ≡ Attempt.Beyond → on_registers at.found.op ≡ false }
+        ensures kind { result ≡ Attempt.Beyond → on_registers at.op ≡ false }
         ensures rest { ChangesStateAlone self.old self.new }
     {
         self.act_on_registers(at)
@@ -108,15 +131,15 @@ impl Machine {
     #[inline(always)]
     #[tactic(auto, unfolding(crate::specs::Effect::effect))]
     fn go_beyond(&mut self, at: At) -> Result<Option<Exit>, AllocError>
-        requires op { at.found.op ≡ op_at self.old.program self.old.pc }
-        requires kind { on_registers at.found.op ≡ false }
-        requires at { IsAt at self.old }
+        requires op { at.op ≡ op_at self.old.program self.old.pc }
+        requires kind { on_registers at.op ≡ false }
+        requires at { IsAt at.pc at.next at.skip at.bytes self.old }
         ensures effect { IfOk result (λ exit. after_of self.new exit ≡ effect self.old.program (state_of self.old)) }
         ensures rest { ChangesStateAlone self.old self.new }
         ensures err { OnErr result (self.new ≡ self.old) }
         ensures wants { OnErr result (changes_memory (act_at self.old.program (state_of self.old)) ≡ true) }
     {
-        self.act_beyond(at)
+        self.act_beyond(at.op, at.pc, at.next, at.skip, at.bytes)
     }
 
     // What an instruction of an opcode costs.
@@ -167,12 +190,12 @@ impl Machine {
                 let (left, exit) = self.trap_past_code::<PLAIN>(left);
                 return (left, Ok(Some(exit)));
             };
-            let cost = self.cost::<PLAIN>(at.found.op);
+            let cost = self.cost::<PLAIN>(at.op);
             if left < cost {
-                return (0, Ok(Some(Exit::OutOfGas)));
+                return (0, Ok(Some(out_of_gas())));
             }
             match self.attempt(at) {
-                Attempt::Next => pc = at.found.next,
+                Attempt::Next => pc = at.next,
                 Attempt::Jumped => pc = self.pc,
                 Attempt::Panics => return (left - cost, Ok(Some(Exit::Panic))),
                 Attempt::Beyond => match self.go_beyond(at) {

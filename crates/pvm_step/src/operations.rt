@@ -26,15 +26,15 @@ impl Machine {
         requires line { line op ≡ gives_of_a_b op }
         requires form { form_of op ≡ F13 }
         requires operation { IsTrue (alu.is_binary op) }
-        requires at { IsAt at self.old }
+        requires at { IsAt at.pc at.next at.skip at.bytes self.old }
         ensures acts { after_of self.new (exit_after result) ≡ outcome op self.old.program (state_of self.old) }
         ensures next { result ≡ Next → self.new.pc ≡ blob.next self.old.program self.old.pc }
         ensures done { is_done result ≡ true }
         ensures rest { ChangesStateAlone self.old self.new }
     {
-        let args = three_registers_in(at.found.bytes);
+        let args = three_registers_in(at.bytes);
         let value = binary(op, self.value(args.a), self.value(args.b));
-        self.give(args.d, value, at.found.next);
+        self.give(args.d, value, at.next);
         Attempt::Next
     }
 
@@ -44,15 +44,15 @@ impl Machine {
         requires line { line op ≡ gives_of_b_x op }
         requires form { form_of op ≡ F10 }
         requires operation { IsTrue (alu.is_binary op) }
-        requires at { IsAt at self.old }
+        requires at { IsAt at.pc at.next at.skip at.bytes self.old }
         ensures acts { after_of self.new (exit_after result) ≡ outcome op self.old.program (state_of self.old) }
         ensures next { result ≡ Next → self.new.pc ≡ blob.next self.old.program self.old.pc }
         ensures done { is_done result ≡ true }
         ensures rest { ChangesStateAlone self.old self.new }
     {
-        let args = two_registers_and_immediate_in(at.found.bytes, at.found.skip);
+        let args = two_registers_and_immediate_in(at.bytes, at.skip);
         let value = binary(op, self.value(args.b), args.x);
-        self.give(args.a, value, at.found.next);
+        self.give(args.a, value, at.next);
         Attempt::Next
     }
 
@@ -62,45 +62,45 @@ impl Machine {
         requires line { line op ≡ gives_of_a op }
         requires form { form_of op ≡ F9 }
         requires operation { IsTrue (alu.is_unary op) }
-        requires at { IsAt at self.old }
+        requires at { IsAt at.pc at.next at.skip at.bytes self.old }
         ensures acts { after_of self.new (exit_after result) ≡ outcome op self.old.program (state_of self.old) }
         ensures next { result ≡ Next → self.new.pc ≡ blob.next self.old.program self.old.pc }
         ensures done { is_done result ≡ true }
         ensures rest { ChangesStateAlone self.old self.new }
     {
-        let args = two_registers_in(at.found.bytes);
+        let args = two_registers_in(at.bytes);
         let value = unary(op, self.value(args.a));
-        self.give(args.d, value, at.found.next);
+        self.give(args.d, value, at.next);
         Attempt::Next
     }
 
     /// An immediate of 64 bits.
     #[inline(never)]
     #[tactic(auto, unfolding(crate::specs::Effect::outcome, crate::specs::Effect::line, pvm_isa::specs::Opcodes::entry))]
-    pub(crate) fn load_imm_64(&mut self, at: At) -> Attempt
-        requires at { IsAt at self.old }
+    pub(crate) fn load_imm_64(&mut self, pc: u64, next: u64, skip: u8, bytes: u64) -> Attempt
+        requires at { IsAt pc next skip bytes self.old }
         ensures acts { after_of self.new (exit_after result) ≡ outcome LoadImm64 self.old.program (state_of self.old) }
         ensures next { result ≡ Next → self.new.pc ≡ blob.next self.old.program self.old.pc }
         ensures done { is_done result ≡ true }
         ensures rest { ChangesStateAlone self.old self.new }
     {
-        let args = register_and_wide_immediate(self.program.code(), at.pc);
-        self.give(args.a, args.x, at.found.next);
+        let args = register_and_wide_immediate(self.program.code(), pc);
+        self.give(args.a, args.x, next);
         Attempt::Next
     }
 
     /// An immediate.
     #[inline(never)]
     #[tactic(auto, unfolding(crate::specs::Effect::outcome, crate::specs::Effect::line, pvm_isa::specs::Opcodes::entry))]
-    pub(crate) fn load_imm(&mut self, at: At) -> Attempt
-        requires at { IsAt at self.old }
+    pub(crate) fn load_imm(&mut self, pc: u64, next: u64, skip: u8, bytes: u64) -> Attempt
+        requires at { IsAt pc next skip bytes self.old }
         ensures acts { after_of self.new (exit_after result) ≡ outcome LoadImm self.old.program (state_of self.old) }
         ensures next { result ≡ Next → self.new.pc ≡ blob.next self.old.program self.old.pc }
         ensures done { is_done result ≡ true }
         ensures rest { ChangesStateAlone self.old self.new }
     {
-        let args = register_and_immediate(self.program.code(), at.pc, at.found.skip);
-        self.give(args.a, args.x, at.found.next);
+        let args = register_and_immediate(self.program.code(), pc, skip);
+        self.give(args.a, args.x, next);
         Attempt::Next
     }
 
@@ -108,47 +108,47 @@ impl Machine {
     #[inline(always)]
     #[tactic(auto, unfolding(crate::specs::Effect::outcome, crate::specs::Effect::line, pvm_isa::specs::Opcodes::entry))]
     pub(crate) fn move_reg(&mut self, at: At) -> Attempt
-        requires at { IsAt at self.old }
+        requires at { IsAt at.pc at.next at.skip at.bytes self.old }
         ensures acts { after_of self.new (exit_after result) ≡ outcome MoveReg self.old.program (state_of self.old) }
         ensures next { result ≡ Next → self.new.pc ≡ blob.next self.old.program self.old.pc }
         ensures done { is_done result ≡ true }
         ensures rest { ChangesStateAlone self.old self.new }
     {
-        let args = two_registers_in(at.found.bytes);
+        let args = two_registers_in(at.bytes);
         let value = self.value(args.a);
-        self.give(args.d, value, at.found.next);
+        self.give(args.d, value, at.next);
         Attempt::Next
     }
 
     /// An immediate where a register is 0.
     #[inline(never)]
     #[tactic(auto, unfolding(crate::specs::Effect::outcome, crate::specs::Effect::line, pvm_isa::specs::Opcodes::entry))]
-    pub(crate) fn cmov_iz_imm(&mut self, at: At) -> Attempt
-        requires at { IsAt at self.old }
+    pub(crate) fn cmov_iz_imm(&mut self, pc: u64, next: u64, skip: u8, bytes: u64) -> Attempt
+        requires at { IsAt pc next skip bytes self.old }
         ensures acts { after_of self.new (exit_after result) ≡ outcome CmovIzImm self.old.program (state_of self.old) }
         ensures next { result ≡ Next → self.new.pc ≡ blob.next self.old.program self.old.pc }
         ensures done { is_done result ≡ true }
         ensures rest { ChangesStateAlone self.old self.new }
     {
-        let args = two_registers_and_immediate(self.program.code(), at.pc, at.found.skip);
+        let args = two_registers_and_immediate(self.program.code(), pc, skip);
         let holds = self.value(args.b) == 0;
-        self.move_where(holds, args.a, args.x, at.found.next);
+        self.move_where(holds, args.a, args.x, next);
         Attempt::Next
     }
 
     /// An immediate where a register is not 0.
     #[inline(never)]
     #[tactic(auto, unfolding(crate::specs::Effect::outcome, crate::specs::Effect::line, pvm_isa::specs::Opcodes::entry))]
-    pub(crate) fn cmov_nz_imm(&mut self, at: At) -> Attempt
-        requires at { IsAt at self.old }
+    pub(crate) fn cmov_nz_imm(&mut self, pc: u64, next: u64, skip: u8, bytes: u64) -> Attempt
+        requires at { IsAt pc next skip bytes self.old }
         ensures acts { after_of self.new (exit_after result) ≡ outcome CmovNzImm self.old.program (state_of self.old) }
         ensures next { result ≡ Next → self.new.pc ≡ blob.next self.old.program self.old.pc }
         ensures done { is_done result ≡ true }
         ensures rest { ChangesStateAlone self.old self.new }
     {
-        let args = two_registers_and_immediate(self.program.code(), at.pc, at.found.skip);
+        let args = two_registers_and_immediate(self.program.code(), pc, skip);
         let holds = self.value(args.b) != 0;
-        self.move_where(holds, args.a, args.x, at.found.next);
+        self.move_where(holds, args.a, args.x, next);
         Attempt::Next
     }
 
@@ -156,16 +156,16 @@ impl Machine {
     #[inline(always)]
     #[tactic(auto, unfolding(crate::specs::Effect::outcome, crate::specs::Effect::line, pvm_isa::specs::Opcodes::entry))]
     pub(crate) fn cmov_iz(&mut self, at: At) -> Attempt
-        requires at { IsAt at self.old }
+        requires at { IsAt at.pc at.next at.skip at.bytes self.old }
         ensures acts { after_of self.new (exit_after result) ≡ outcome CmovIz self.old.program (state_of self.old) }
         ensures next { result ≡ Next → self.new.pc ≡ blob.next self.old.program self.old.pc }
         ensures done { is_done result ≡ true }
         ensures rest { ChangesStateAlone self.old self.new }
     {
-        let args = three_registers_in(at.found.bytes);
+        let args = three_registers_in(at.bytes);
         let holds = self.value(args.b) == 0;
         let value = self.value(args.a);
-        self.move_where(holds, args.d, value, at.found.next);
+        self.move_where(holds, args.d, value, at.next);
         Attempt::Next
     }
 
@@ -173,16 +173,16 @@ impl Machine {
     #[inline(always)]
     #[tactic(auto, unfolding(crate::specs::Effect::outcome, crate::specs::Effect::line, pvm_isa::specs::Opcodes::entry))]
     pub(crate) fn cmov_nz(&mut self, at: At) -> Attempt
-        requires at { IsAt at self.old }
+        requires at { IsAt at.pc at.next at.skip at.bytes self.old }
         ensures acts { after_of self.new (exit_after result) ≡ outcome CmovNz self.old.program (state_of self.old) }
         ensures next { result ≡ Next → self.new.pc ≡ blob.next self.old.program self.old.pc }
         ensures done { is_done result ≡ true }
         ensures rest { ChangesStateAlone self.old self.new }
     {
-        let args = three_registers_in(at.found.bytes);
+        let args = three_registers_in(at.bytes);
         let holds = self.value(args.b) != 0;
         let value = self.value(args.a);
-        self.move_where(holds, args.d, value, at.found.next);
+        self.move_where(holds, args.d, value, at.next);
         Attempt::Next
     }
 }

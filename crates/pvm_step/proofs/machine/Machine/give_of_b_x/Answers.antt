@@ -11,7 +11,7 @@ pub returns-clause-acts : goal.returns-clause-acts
 returns-clause-acts c =
     let p : Program = c.args.self.now.program in
     let s : State = state_of c.args.self.now in
-    let made : after_of c.give.new.self None ≡ after p s (gives_of_b_x c.args.op (arguments F10 p.code s.pc c.args.at.found.skip) s) = search rules in
+    let made : after_of c.give.new.self None ≡ after p s (gives_of_b_x c.args.op (arguments F10 p.code s.pc c.args.at.skip) s) = search rules in
     made
     ∙ ap (λ (k : ℕ). after p s (gives_of_b_x c.args.op (arguments F10 p.code s.pc k) s)) c.requires.at.skip
     ∙ sym (outcome_by c.args.op F10 (gives_of_b_x c.args.op) p s c.requires.line c.requires.form)

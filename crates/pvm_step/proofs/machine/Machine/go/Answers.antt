@@ -4,6 +4,7 @@ use Rattle.pvm_isa.specs.declared.op.Op.{Op}
 use Rattle.pvm_step.specs.Effect.{effect}
 use Rattle.pvm_step.specs.Machine.{Machine, ChangesStateAlone, state_of, after_of, moment, with_gas}
 use Rattle.pvm_step.specs.History.{cost_of, step}
+use Rattle.pvm_step.specs.declared.exit.Exit.{Exit}
 use Rattle.pvm_step.specs.declared.exit.Exit.TheVariants.{Panic}
 use Rattle.pvm_step.proofs.Reached.{reached-none, made-last}
 use Rattle.pvm_step.proofs.Turns.{through, none_changed, turn-more, turn-last, turn-short}
@@ -28,7 +29,8 @@ returns-in_default-clause-reached g c =
 
 pub returns-then-left-cost-clause-reached : goal.returns-then-left-cost-clause-reached
 returns-then-left-cost-clause-reached g c =
-    turn-short c.args.self.now.program (moment c.args.self.now None) c.steps.made c.steps.self c.steps.left c.cost-cost.result c.steps.invariant.rest.program c.steps.invariant.here
+    ap (λ (e : Exit). with_gas c.steps.self 0 (Some e)) c.out_of_gas.ensures
+    ∙ turn-short c.args.self.now.program (moment c.args.self.now None) c.steps.made c.steps.self c.steps.left c.cost-cost.result c.steps.invariant.rest.program c.steps.invariant.here
     (c.cost-cost.ensures ∙ ap (λ (op : Op). cost_of c.steps.self.costs op) c.in-Some.ensures.op) c.args.fuel c.steps-test.true c.if-left-cost.true
 
 pub returns-in-Panics-clause-reached : goal.returns-in-Panics-clause-reached
