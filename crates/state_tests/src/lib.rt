@@ -1,10 +1,8 @@
-//! Tests of accounts, states and batches by their public calls.
+//! Tests of accounts and states by their public calls.
 #![tactic(auto)]
 
 #[cfg(test)]
 mod accounts;
-#[cfg(test)]
-mod batches;
 #[cfg(test)]
 mod histories;
 #[cfg(test)]
