@@ -1,5 +1,7 @@
 //! Footprints, look-ups, copies, changes and orders by hand.
-use jam_accounts::{Account, Accounts, Lookups, Preimages, State, Storage, fits, threshold};
+use jam_accounts::{
+    Account, Accounts, Footprint, Lookups, Preimages, State, Storage, fits, threshold,
+};
 use preimage_store::History;
 use std::alloc::{AllocError, Global};
 
@@ -61,7 +63,17 @@ fn put_preimage(alloc: Global, account: &mut Account, bytes: &[u8]) -> Result<()
     account.put_preimage(bytes)
 }
 
-// An account with a value and a history is changed so, and takes up items and octets; what it needs with each gratis.
+// Items and octets, and what they need with each gratis.
+fn takes_up(footprint: Footprint) -> (u128, u128, [u128; 3]) {
+    let needed = [
+        threshold(footprint, 0),
+        threshold(footprint, 200),
+        threshold(footprint, u64::MAX),
+    ];
+    (footprint.items(), footprint.octets(), needed)
+}
+
+// What an account takes up once it keeps a value and a history more.
 fn taken_up(
     alloc: Global,
     account: &mut Account,
@@ -71,13 +83,7 @@ fn taken_up(
 ) -> Result<(u128, u128, [u128; 3]), AllocError> {
     put_value(alloc, account, key, value)?;
     put_history(account, &[7; 32], length, &[])?;
-    let footprint = account.footprint();
-    let needed = [
-        threshold(footprint, 0),
-        threshold(footprint, 200),
-        threshold(footprint, u64::MAX),
-    ];
-    Ok((footprint.items(), footprint.octets(), needed))
+    Ok(takes_up(account.footprint()))
 }
 
 #[test]
@@ -169,30 +175,26 @@ fn a_copy_is_equal_and_apart(rt: HostRuntime) -> Result<(), AllocError> {
     Ok(())
 }
 
-fn of_balance(alloc: Global, balance: u64) -> Account {
-    let mut account = Account::blank(alloc);
-    account.balance = balance;
-    account
-}
-
-fn balances(accounts: &Accounts) -> [Option<u64>; 2] {
-    [6, 7].map(|id| accounts.get(id).map(|account| account.balance))
+// What the accounts 6 and 7 keep.
+fn kept(accounts: &Accounts) -> [Option<(usize, usize, usize)>; 2] {
+    [accounts.get(6).map(sizes), accounts.get(7).map(sizes)]
 }
 
 #[test]
 fn an_account_is_put_in_place_of_another(rt: HostRuntime) -> Result<(), AllocError> {
     let alloc = rt.alloc();
     let mut accounts = Accounts::new(alloc);
-    accounts.put(6, of_balance(alloc, 1))?;
-    accounts.put(7, of_balance(alloc, 2))?;
-    let before = accounts.replace(6, of_balance(alloc, 3));
-    assert!(rt; before.balance == 1);
+    let account = with_preimages(alloc)?;
+    accounts.put(6, account)?;
+    let before = accounts.replace(6, Account::blank(alloc));
+    assert!(rt; sizes(&before) == (1, 2, 3));
+    accounts.put(7, before)?;
     let state = State::new(4, [5; 32], accounts);
     let mut copy = state.copy()?;
     copy.accounts.remove(7);
     assert!(rt; (copy.version(), copy.slot) == (2, 4));
-    assert!(rt; balances(&copy.accounts) == [Some(3), None]);
-    assert!(rt; balances(&state.accounts) == [Some(3), Some(2)]);
+    assert!(rt; kept(&copy.accounts) == [Some((0, 0, 0)), None]);
+    assert!(rt; kept(&state.accounts) == [Some((0, 0, 0)), Some((1, 2, 3))]);
     Ok(())
 }
 
@@ -249,32 +251,34 @@ fn awaiting_account(alloc: Global) -> Result<Account, AllocError> {
     Ok(account)
 }
 
-// Whether bytes that come at slot 9 are stored, and how many preimages there are then.
-fn received(
-    alloc: Global,
-    account: &mut Account,
-    bytes: &[u8],
-) -> Result<(bool, usize), AllocError> {
-    let stored = account.receive(alloc, bytes, 9)?;
-    Ok((stored, account.preimages.len()))
+// Whether bytes that come at slot 9 are stored.
+fn is_received(alloc: Global, account: &mut Account, bytes: &[u8]) -> Result<bool, AllocError> {
+    account.receive(alloc, bytes, 9)
+}
+
+// What the account has of these bytes now.
+fn held(account: &Account, bytes: &[u8]) -> (bool, Option<History>) {
+    let hash = blake2b_core::digest(bytes);
+    let preimage = account.preimages.get(&hash);
+    (preimage == Some(bytes), account.lookups.get(&hash, 3))
 }
 
 #[test]
 fn a_preimage_is_received_where_it_is_awaited(rt: HostRuntime) -> Result<(), AllocError> {
     let mut account = awaiting_account(rt.alloc())?;
-    let rows: [(&[u8], bool, usize); 5] = [
-        (b"uvw", false, 0),
-        (b"rst", false, 0),
-        (b"xyz", true, 1),
-        (b"xyz", false, 1),
-        (b"", false, 1),
+    let rows: [(&[u8], bool); 5] = [
+        (b"uvw", false),
+        (b"rst", false),
+        (b"xyz", true),
+        (b"xyz", false),
+        (b"", false),
     ];
-    for (bytes, stored, kept) in rows {
-        let answer = received(rt.alloc(), &mut account, bytes)?;
-        assert!(rt; answer == (stored, kept));
+    for (bytes, stored) in rows {
+        let answer = is_received(rt.alloc(), &mut account, bytes)?;
+        assert!(rt; answer == stored);
     }
-    let awaited = blake2b_core::digest(b"xyz");
-    assert!(rt; account.lookups.get(&awaited, 3) == History::of(&[9]));
-    assert!(rt; account.preimages.get(&awaited) == Some(b"xyz".as_slice()));
+    assert!(rt; held(&account, b"xyz") == (true, History::of(&[9])));
+    assert!(rt; held(&account, b"uvw") == (false, History::of(&[1])));
+    assert!(rt; sizes(&account) == (0, 1, 3));
     Ok(())
 }
