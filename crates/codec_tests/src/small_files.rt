@@ -1,10 +1,32 @@
 //! Small files, byte by byte.
-use jam_codec::{Cursor, FileRefusal};
-use jam_fields::{Blob, read_file, read_rows, write_file, write_rows};
+use jam_codec::FileRefusal;
+use jam_fields::{Blob, Spell, read_file, read_file_with_tail, write_file};
 use std::alloc::{AllocError, Global};
-use std::process::Abort;
+
+// The bytes as they are written again after they were read.
+fn again<T: Spell>(alloc: Global, bytes: &[u8]) -> Result<Vec<u8>, FileRefusal> {
+    let value: T = read_file(alloc, bytes)?;
+    let again = write_file(alloc, &value)?;
+    Ok(again)
+}
+
+fn byte_of(alloc: Global, bytes: &[u8]) -> Result<u8, FileRefusal> {
+    read_file(alloc, bytes)
+}
 
 fn number_of(alloc: Global, bytes: &[u8]) -> Result<u16, FileRefusal> {
+    read_file(alloc, bytes)
+}
+
+fn word_of(alloc: Global, bytes: &[u8]) -> Result<u32, FileRefusal> {
+    read_file(alloc, bytes)
+}
+
+fn long_word_of(alloc: Global, bytes: &[u8]) -> Result<u64, FileRefusal> {
+    read_file(alloc, bytes)
+}
+
+fn hash_of(alloc: Global, bytes: &[u8]) -> Result<[u8; 32], FileRefusal> {
     read_file(alloc, bytes)
 }
 
@@ -16,20 +38,72 @@ fn option_of(alloc: Global, bytes: &[u8]) -> Result<Option<u8>, FileRefusal> {
     read_file(alloc, bytes)
 }
 
-fn file_of(alloc: Global, value: Option<u8>) -> Result<Vec<u8>, AllocError> {
-    write_file(alloc, &value)
-}
+const COUNTED: [u8; 32] = [
+    1, 2, 3, 4, 5, 6, 7, 8, 9, 10, 11, 12, 13, 14, 15, 16, 17, 18, 19, 20, 21, 22, 23, 24, 25, 26,
+    27, 28, 29, 30, 31, 32,
+];
 
 #[test]
 fn files_of_one_field(rt: HostRuntime) -> Result<(), FileRefusal> {
     let alloc = rt.alloc();
+    assert_eq!(rt; byte_of(alloc, &[0x34]), Ok(0x34));
     assert_eq!(rt; number_of(alloc, &[0x34, 0x12]), Ok(0x1234));
+    assert_eq!(rt; word_of(alloc, &[0x78, 0x56, 0x34, 0x12]), Ok(0x1234_5678));
+    assert_eq!(rt;
+        long_word_of(alloc, &[1, 2, 3, 4, 5, 6, 7, 8]),
+        Ok(0x0807_0605_0403_0201)
+    );
+    let hash = hash_of(alloc, &COUNTED)?;
+    assert!(rt; hash == COUNTED);
     let blob = blob_of(alloc, &[0x02, 0x07, 0x08])?;
     assert_eq!(rt; blob.as_slice(), [0x07, 0x08].as_slice());
     assert_eq!(rt; option_of(alloc, &[0x01, 0x05]), Ok(Some(5)));
-    let bytes = file_of(alloc, Some(5))?;
-    assert_eq!(rt; bytes.as_slice(), [0x01, 0x05].as_slice());
     assert_eq!(rt; option_of(alloc, &[0x00]), Ok(None));
+    Ok(())
+}
+
+#[test]
+fn what_is_read_is_written_again(rt: HostRuntime) -> Result<(), FileRefusal> {
+    let alloc = rt.alloc();
+    let byte = again::<u8>(alloc, &[0x34])?;
+    assert!(rt; byte.as_slice() == [0x34].as_slice());
+    let number = again::<u16>(alloc, &[0x34, 0x12])?;
+    assert!(rt; number.as_slice() == [0x34, 0x12].as_slice());
+    let word = again::<u32>(alloc, &[0x78, 0x56, 0x34, 0x12])?;
+    assert!(rt; word.as_slice() == [0x78, 0x56, 0x34, 0x12].as_slice());
+    let long_word = again::<u64>(alloc, &[1, 2, 3, 4, 5, 6, 7, 8])?;
+    assert!(rt; long_word.as_slice() == [1, 2, 3, 4, 5, 6, 7, 8].as_slice());
+    let hash = again::<[u8; 32]>(alloc, &COUNTED)?;
+    assert!(rt; hash.as_slice() == COUNTED.as_slice());
+    let blob = again::<Blob>(alloc, &[0x02, 0x07, 0x08])?;
+    assert!(rt; blob.as_slice() == [0x02, 0x07, 0x08].as_slice());
+    let some = again::<Option<u8>>(alloc, &[0x01, 0x05])?;
+    assert!(rt; some.as_slice() == [0x01, 0x05].as_slice());
+    let none = again::<Option<u8>>(alloc, &[0x00])?;
+    assert!(rt; none.as_slice() == [0x00].as_slice());
+    Ok(())
+}
+
+// Byte i is i modulo 251, behind the length.
+fn long_blob(alloc: Global) -> Result<Vec<u8>, AllocError> {
+    let mut bytes = vec![in alloc; 0u8; 5002]?;
+    for (i, byte) in bytes.iter_mut().enumerate() {
+        *byte = (i % 251) as u8;
+    }
+    if let [first, second, ..] = bytes.as_mut_slice() {
+        *first = 0x93;
+        *second = 0x88;
+    }
+    Ok(bytes)
+}
+
+// The length 5,000 is 0x1388, whose high part is in the first byte.
+#[test]
+fn a_long_blob_is_written_again(rt: HostRuntime) -> Result<(), FileRefusal> {
+    let bytes = long_blob(rt.alloc())?;
+    let again = again::<Blob>(rt.alloc(), &bytes)?;
+    assert_eq!(rt; again.len(), 5002);
+    assert!(rt; again.as_slice() == bytes.as_slice());
     Ok(())
 }
 
@@ -48,38 +122,37 @@ fn files_that_spell_nothing(rt: HostRuntime) {
     }
 }
 
-fn entries_of(alloc: Global, bytes: &[u8], limit: u64) -> Result<Vec<(u32, u8)>, FileRefusal> {
-    let mut cursor = Cursor::new(bytes);
-    read_rows(alloc, &mut cursor, limit)
-}
-
-fn spelling_of(alloc: Global, entries: &[(u32, u8)], limit: u64) -> Result<Vec<u8>, AllocError> {
-    let mut out = Vec::new(alloc);
-    write_rows(entries, limit, &mut out)?;
-    Ok(out)
-}
-
-// Of these bytes, no map of so many entries at most is read.
-fn refuses(rt: &impl Abort, alloc: Global, (limit, bytes, place): (u64, [u8; 11], u64)) {
-    let refusal = entries_of(alloc, &bytes, limit).err();
-    assert!(rt;
-        refusal == Some(FileRefusal::Malformed { place }),
-        "to {place}"
-    );
+fn parts_of(alloc: Global, bytes: &[u8]) -> Result<(u8, Option<u16>), FileRefusal> {
+    read_file_with_tail(alloc, bytes)
 }
 
 #[test]
-fn maps_by_their_entries(rt: HostRuntime) -> Result<(), FileRefusal> {
-    let alloc = rt.alloc();
-    let bytes = [
-        0x02, 0x01, 0x00, 0x00, 0x00, 0x09, 0x02, 0x00, 0x00, 0x00, 0x08,
+fn a_file_may_end_before_its_last_part(rt: HostRuntime) {
+    let table: [(&[u8], Result<(u8, Option<u16>), FileRefusal>); 8] = [
+        (&[5], Ok((5, None))),
+        (&[5, 1, 2, 3], Ok((5, Some(0x302)))),
+        (&[], Err(FileRefusal::Malformed { place: 0 })),
+        (&[5, 0], Err(FileRefusal::Malformed { place: 1 })),
+        (&[5, 2, 2, 3], Err(FileRefusal::Malformed { place: 1 })),
+        (&[5, 1], Err(FileRefusal::Malformed { place: 2 })),
+        (&[5, 1, 2], Err(FileRefusal::Malformed { place: 2 })),
+        (&[5, 1, 2, 3, 4], Err(FileRefusal::Malformed { place: 4 })),
     ];
-    let entries = entries_of(alloc, &bytes, 2)?;
-    assert_eq!(rt; entries.as_slice(), [(1, 9), (2, 8)].as_slice());
-    let out = spelling_of(alloc, &[(1, 9), (2, 8)], 2)?;
-    assert_eq!(rt; out.as_slice(), bytes.as_slice());
-    refuses(&rt, alloc, (1, bytes, 0));
-    refuses(&rt, alloc, (2, [2, 2, 0, 0, 0, 9, 2, 0, 0, 0, 8], 6));
-    refuses(&rt, alloc, (9, [3, 1, 0, 0, 0, 9, 2, 0, 0, 0, 8], 11));
+    for (bytes, wanted) in table {
+        let parts = parts_of(rt.alloc(), bytes);
+        assert!(rt; parts == wanted, "of {} bytes", bytes.len());
+    }
+}
+
+fn text_of(alloc: Global, refusal: FileRefusal) -> Result<String, AllocError> {
+    format!(in alloc; "{refusal}")
+}
+
+#[test]
+fn refusals_as_text(rt: HostRuntime) -> Result<(), AllocError> {
+    let place = text_of(rt.alloc(), FileRefusal::Malformed { place: 46 })?;
+    assert!(rt; place.as_str() == "no field spells at byte 46");
+    let memory = text_of(rt.alloc(), FileRefusal::NoMemory)?;
+    assert!(rt; memory.as_str() == "out of memory");
     Ok(())
 }

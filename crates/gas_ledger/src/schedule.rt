@@ -1,5 +1,5 @@
 // What instructions and host calls cost.
-ghost use Rattle.std.specs.Prelude.{◌≡◌, ◌≤◌, ◌<◌, ◌^◌, All, nat_le, if◌then◌else◌};
+ghost use Rattle.std.specs.Prelude.{◌≡◌, ◌≤◌, ◌<◌, ◌^◌, ◌↔◌, IsTrue, All, nat_le, if◌then◌else◌};
 ghost use Rattle.std.specs.List.{list_all};
 ghost use Rattle.gas_ledger.specs.Schedule.{IsSchedule, are_costs, plain, form_cost, call_cost};
 
@@ -77,6 +77,13 @@ impl Schedule {
         ensures schedule { IsSchedule self.now }
     {
         &self.calls
+    }
+
+    /// Whether each form costs 1.
+    pub fn has_plain_forms(&self) -> bool
+        ensures { IsTrue result ↔ (self.now.forms ≡ plain.forms) }
+    {
+        self.forms == [1; 13]
     }
 
     /// What an instruction of a form costs. Forms are numbered from 1 on.

@@ -96,7 +96,7 @@ run_lines gas m (Some exit) = block (outcome_by gas m exit)
 
 -- run: the raw machine's run from place 0
 abbrev pub run_work : blob.Program → ℕ → Work
-run_work program gas = let m : Moment = answer program gas (raw 0) in prints (run_lines gas m m.exit)
+run_work program gas = let m : Moment = answer program (raw 0 gas) in prints (run_lines gas m m.exit)
 
 -- hash: the digest of the file
 abbrev pub hash_work : List ℕ → Work

@@ -16,7 +16,7 @@ use trace_text::{outcome_lines, spell_lines};
 
 // A program's machine at the end of its run from place 0, and how it ended.
 fn ended_machine(alloc: Global, program: Program, gas: Small) -> Result<(Machine, Exit), AllocError>
-    ensures { IfOk result (λ ended. moment ended.0 (Some ended.1) ≡ answer program gas.value (raw 0)) }
+    ensures { IfOk result (λ ended. moment ended.0 (Some ended.1) ≡ answer program (raw 0 gas.value)) }
 {
     run_laws();
     let mut machine = Machine::raw(alloc, Rc::new(alloc, program)?, 0, gas.value);

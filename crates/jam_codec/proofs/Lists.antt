@@ -16,7 +16,7 @@ use Rattle.jam_codec.specs.Spelling.{little_endian}
 use Rattle.jam_codec.proofs.Numbers.{length-little_endian}
 use Rattle.jam_codec.specs.Reading.{Reading, Takes, natural_at, bytes_at, fixed_at}
 use Rattle.jam_codec.specs.Format.{Format, any, both, times, natural_where, fixed_where, bytes_where, items_fit}
-use Rattle.jam_codec.specs.Lists.{blob_where, list_of, entry_of, map_of, fin_map_of, follows, blob_after, blob_by_after, number_after, hash_and_number_cmp, is_hash_from, hash_and_number_after, nothing, option_tag, some_of, behind_tag, option_of, behind_one}
+use Rattle.jam_codec.specs.Lists.{blob_where, list_of, entry_of, map_of, fin_map_of, follows, blob_after, blob_by_after, number_after, hash_and_number_cmp, is_hash_from, hash_and_number_after, nothing, option_tag, some_of, if_present, option_of, behind_one}
 use Rattle.jam_codec.specs.Laws.{IsFormat}
 use Rattle.jam_codec.proofs.Formats.{ok_parts, read_here, both_laws, same_laws, by_laws, times_laws, length-items}
 use Rattle.jam_codec.proofs.Fields.{natural_laws, fixed_laws, bytes_laws}
@@ -133,18 +133,18 @@ module _ {A : Type 0} (f : Format A) (F : IsFormat f) where
     reads = λ r. refl;
   })
 
-  behind_tag_laws : (present : Bool) → IsFormat (behind_tag f present)
-  behind_tag_laws true = some_laws
-  behind_tag_laws false = nothing_laws None
+  if_present_laws : (present : Bool) → IsFormat (if_present f present)
+  if_present_laws true = some_laws
+  if_present_laws false = nothing_laws None
 
-  tagged : (present : Bool) (x : Option A) → (behind_tag f present).Fits x → (let p : Bool × Option A = (is_some x, x) in p) ≡ (present, x)
+  tagged : (present : Bool) (x : Option A) → (if_present f present).Fits x → (let p : Bool × Option A = (is_some x, x) in p) ≡ (present, x)
   tagged true None h = absurd h
   tagged true (Some a) h = refl
   tagged false x h = rw h refl
 
   pub option_laws : IsFormat (option_of f)
   option_laws =
-      by_laws (λ p. p.1) (λ x. (is_some x, x)) (both option_tag (behind_tag f)) (both_laws option_tag (behind_tag f) option_tag_laws behind_tag_laws)
+      by_laws (λ p. p.1) (λ x. (is_some x, x)) (both option_tag (if_present f)) (both_laws option_tag (if_present f) option_tag_laws if_present_laws)
       (λ p h. tagged p.0 p.1 h.1)
       (λ x h. refl)
 

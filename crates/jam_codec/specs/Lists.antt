@@ -87,14 +87,14 @@ some_spelled f (Some x) = f.spell x
 abbrev pub some_of : {A : Type 0} → Format A → Format (Option A)
 some_of f = record { Fits = some_fits f; spell = some_spelled f; Run = f.Run; read = λ r. f.read r >>= λ x. Ok (Some x.0, x.1) }
 
--- what is behind a tag: the value where it says that one follows, else no field
-abbrev pub behind_tag : {A : Type 0} → Format A → Bool → Format (Option A)
-behind_tag f true = some_of f
-behind_tag f false = nothing None
+-- what follows the tag of an option: the value where it says so, else no field
+abbrev pub if_present : {A : Type 0} → Format A → Bool → Format (Option A)
+if_present f true = some_of f
+if_present f false = nothing None
 
 -- a tag, and the value where it says that one follows
 abbrev pub option_of : {A : Type 0} → Format A → Format (Option A)
-option_of f = by (λ p. p.1) (λ x. (is_some x, x)) (both option_tag (behind_tag f))
+option_of f = by (λ p. p.1) (λ x. (is_some x, x)) (both option_tag (if_present f))
 
 -- the byte 1, and a value
 abbrev pub behind_one : {A : Type 0} → Format A → Format A

@@ -1,25 +1,35 @@
 // Files of one value, and of one whose last part may be missing.
-ghost use Rattle.std.specs.Prelude.{◌≡◌, IfOk};
+ghost use Rattle.std.specs.Prelude.{◌≡◌, ◌<◌, [], length, IfOk, IfErr, OnOk};
 ghost use Rattle.jam_codec.specs.Format.{whole, from, Spells};
 ghost use Rattle.jam_codec.specs.Lists.{behind_one, tail_at, with_tail};
 ghost use Rattle.jam_codec.specs.Laws.{Longest, SpellsNone};
 ghost use Rattle.jam_codec.specs.Reading.{Reads, ReadsWhole};
 ghost use Rattle.jam_codec.specs.Refusal.{place_of, IfMalformed};
+ghost use Rattle.jam_codec.specs.declared.refusal.FileRefusal.TheVariants.{Malformed};
 
 use crate::field::{Field, Spell};
 use jam_codec::{Cursor, FileRefusal};
 use std::alloc::{AllocError, Global};
+
+// Bytes that are left do not spell.
+fn end(cursor: &Cursor<'_>) -> Result<(), FileRefusal>
+    ensures ok { OnOk result (cursor.now.rest ≡ []) }
+    ensures left { IfErr result (λ e. (e ≡ Malformed cursor.now.place) × (0 < length cursor.now.rest)) }
+{
+    if !cursor.at_end() {
+        return Err(FileRefusal::Malformed {
+            place: cursor.place(),
+        });
+    }
+    Ok(())
+}
 
 fn read_whole<T: Field>(alloc: Global, bytes: &[u8]) -> Result<T, FileRefusal>
     ensures { ReadsWhole place_of result (whole T.format bytes.now) }
 {
     let mut cursor = Cursor::new(bytes);
     let value = T::read(alloc, &mut cursor)?;
-    if !cursor.at_end() {
-        return Err(FileRefusal::Malformed {
-            place: cursor.place(),
-        });
-    }
+    end(&cursor)?;
     Ok(value)
 }
 
@@ -59,11 +69,7 @@ fn read_parts<T: Field, U: Field>(
     let mut cursor = Cursor::new(bytes);
     let value = T::read(alloc, &mut cursor)?;
     let tail = read_tail(alloc, &mut cursor)?;
-    if !cursor.at_end() {
-        return Err(FileRefusal::Malformed {
-            place: cursor.place(),
-        });
-    }
+    end(&cursor)?;
     Ok((value, tail))
 }
 

@@ -31,13 +31,18 @@ fn shared(alloc: Global, program: Program) -> Result<Rc<Program>, AllocError> {
     Ok(shared)
 }
 
-fn machine(alloc: Global, blob: &[u8], gas: u64) -> Result<Machine, ProgramRefusal> {
+pub(crate) fn machine(alloc: Global, blob: &[u8], gas: u64) -> Result<Machine, ProgramRefusal> {
     let program = Program::deblob(alloc, blob)?;
     let program = shared(alloc, program)?;
     Ok(Machine::raw(alloc, program, 0, gas))
 }
 
-fn with_heap(alloc: Global, blob: &[u8], gas: u64, heap: Heap) -> Result<Machine, ProgramRefusal> {
+pub(crate) fn with_heap(
+    alloc: Global,
+    blob: &[u8],
+    gas: u64,
+    heap: Heap,
+) -> Result<Machine, ProgramRefusal> {
     let mut machine = machine(alloc, blob, gas)?;
     machine.heap = heap;
     Ok(machine)
@@ -48,7 +53,7 @@ fn run(machine: &mut Machine, fuel: u64) -> Result<Progress, AllocError> {
 }
 
 // A run of so many steps at most goes so.
-fn runs(
+pub(crate) fn runs(
     rt: &impl Abort,
     machine: &mut Machine,
     fuel: u64,
@@ -60,7 +65,7 @@ fn runs(
 }
 
 // The machine is at this place and has so much gas left.
-fn is_at(rt: &impl Abort, machine: &Machine, pc: u64, left: u64) {
+pub(crate) fn is_at(rt: &impl Abort, machine: &Machine, pc: u64, left: u64) {
     assert_eq!(rt; (machine.pc, machine.ledger.left()), (pc, left));
 }
 
@@ -68,7 +73,7 @@ fn has_heap(rt: &impl Abort, machine: &Machine, next: u64, end: u64) {
     assert_eq!(rt; (machine.heap.next(), machine.heap.end()), (next, end));
 }
 
-fn has_registers(rt: &impl Abort, machine: &Machine, wanted: &[(usize, u64)]) {
+pub(crate) fn has_registers(rt: &impl Abort, machine: &Machine, wanted: &[(usize, u64)]) {
     for &(register, value) in wanted {
         assert!(rt; register < 13);
         assert_eq!(rt; machine.registers[register], value, "register {register}");
@@ -127,7 +132,7 @@ fn has_rights(rt: &impl Abort, machine: &Machine, page: u32, rights: Rights) {
 }
 
 // The output is what the registers 7 and 8 say: its place and its length.
-fn gives_output(
+pub(crate) fn gives_output(
     rt: &impl Abort,
     machine: &mut Machine,
     (place, length): (u64, u64),
@@ -189,7 +194,7 @@ fn steps(rt: &impl Abort, machine: &mut Machine, wanted: Option<Exit>) -> Result
     Ok(())
 }
 
-fn pass_ecalli(machine: &mut Machine) {
+pub(crate) fn pass_ecalli(machine: &mut Machine) {
     if let Op::Ecalli = machine.program.op_at(machine.pc) {
         machine.pass_ecalli();
     }

@@ -1,73 +1,45 @@
 -- Histories, step by step.
-use Rattle.std.proofs.Common.{◌≡◌, ℕ, zero, suc, ◌+◌, ◌<◌, ◌≤◌, List, [], ◌∷◌, length, arith, ap, sym, ◌∙◌, refl, subst, Option, Some, None, false}
+use Rattle.std.proofs.Common.{◌≡◌, ℕ, zero, suc, ◌+◌, ◌-◌, ◌<◌, ◌≤◌, List, [], ◌∷◌, length, get_or, arith, ap, sym, ◌∙◌, refl, subst, Option, Some, None, false}
 use Rattle.std.specs.Prelude.{IsSome, is_some}
+use Rattle.std.proofs.lemmas.Bool.{false≢true}
+use Rattle.gas_ledger.specs.Schedule.{IsSchedule}
 use Rattle.blob_decode.specs.Program.{Program}
 use Rattle.pvm_step.specs.declared.exit.Exit.{Exit}
 use Rattle.pvm_step.specs.declared.exit.Exit.TheVariants.{OutOfGas}
-use Rattle.pvm_step.specs.Effect.{State, effect}
-use Rattle.pvm_step.specs.History.{Moment, step, IsHistory, at, followed, history, last_of, answer, GasNeverRises}
+use Rattle.pvm_step.specs.History.{Moment, cost, step, IsHistory, later, states, history, last_of, before_last, costs_of, reached, answer, GasNeverRises}
+use Rattle.pvm_step.proofs.Steps.{step-gas, step-went}
+use Rattle.pvm_step.proofs.Reached.{reached-ended, reached-step, reached-none, ends}
 
--- a history begins with its first state
-pub history-first : (p : Program) (gas : ℕ) (s : State) → (ms : List Moment) × (history p gas s ≡ at gas s ∷ ms)
-unfolding history
-history-first p zero s = (step p 0 s ∷ [], refl)
-history-first p (suc gas) s = (followed (effect p s).exit (step p (suc gas) s) (history p gas (effect p s).state), refl)
+is_some_of : (o : Option Exit) (e : Exit) → o ≡ Some e → IsSome o
+is_some_of o e h = ap is_some h
 
--- where the step ends the run, it is the answer
-pub answer-exit : (p : Program) (gas : ℕ) (s : State) (e : Exit) → (step p gas s).exit ≡ Some e → answer p gas s ≡ step p gas s
-unfolding answer history
-answer-exit p zero s e h = refl
-answer-exit p (suc gas) s e h = ap (λ o. last_of (at (suc gas) s) (followed o (step p (suc gas) s) (history p gas (effect p s).state))) h
-
-last_of-first : (m n : Moment) (ms : List Moment) → last_of m (n ∷ ms) ≡ last_of n ms
-last_of-first m n ms = refl
-
--- else the answer is that of the state after it
-pub answer-step : (p : Program) (gas : ℕ) (s : State) → (step p gas s).exit ≡ None → answer p gas s ≡ answer p (step p gas s).gas (step p gas s).state
-unfolding answer history
-answer-step p zero s h = absurd (cc h)
-answer-step p (suc gas) s h =
-    let first : (ms : List Moment) × (history p gas (effect p s).state ≡ at gas (effect p s).state ∷ ms) = history-first p gas (effect p s).state in
-    ap (λ o. last_of (at (suc gas) s) (followed o (step p (suc gas) s) (history p gas (effect p s).state))) h
-    ∙ ap (last_of (at (suc gas) s)) first.1
-    ∙ sym (ap (last_of (at gas (effect p s).state)) first.1)
-
--- a moment that is the step, at its end and on the way
-pub answer-ended : (p : Program) (gas : ℕ) (s : State) (m : Moment) (e : Exit) → m.exit ≡ Some e → m ≡ step p gas s → m ≡ answer p gas s
-answer-ended p gas s m e ended is = is ∙ sym (answer-exit p gas s e (ap (λ (n : Moment). n.exit) (sym is) ∙ ended))
-
-pub answer-going : (p : Program) (gas : ℕ) (s : State) (m : Moment) → m.exit ≡ None → m ≡ step p gas s → answer p m.gas m.state ≡ answer p gas s
-answer-going p gas s m going is = ap (λ (n : Moment). answer p n.gas n.state) is ∙ sym (answer-step p gas s (ap (λ (n : Moment). n.exit) (sym is) ∙ going))
-
-pub gas-falls : (p : Program) (gas : ℕ) (s : State) (m : Moment) → m.exit ≡ None → m ≡ step p gas s → m.gas < gas
-gas-falls p zero s m going is = let e : m.exit ≡ Some OutOfGas = ap (λ (n : Moment). n.exit) is in cc
-gas-falls p (suc gas) s m going is = let e : m.gas ≡ gas = ap (λ (n : Moment). n.gas) is in omega arith
-
--- the list of a history, by whether its first step ends it
-one_more : (p : Program) (gas : ℕ) (s : State) (ms : List Moment) → IsHistory p (step p gas s) ms → (step p gas s).exit ≡ None → IsHistory p (at gas s) (at gas s ∷ ms)
-one_more p gas s [] h going = absurd h
-one_more p gas s (m ∷ ms) h going = (refl, refl, h)
-
-ended : (p : Program) (m n : Moment) (e : Exit) → n.exit ≡ Some e → m.exit ≡ None → n ≡ step p m.gas m.state → IsHistory p m (m ∷ (n ∷ []))
-ended p m n e has going is = (refl, going, (is, ap is_some (ap (λ (k : Moment). k.exit) (sym is) ∙ has)))
-
--- the list is a history
-followed-is : (p : Program) (gas : ℕ) (s : State) (o : Option Exit) → (effect p s).exit ≡ o → IsHistory p (at gas (effect p s).state) (history p gas (effect p s).state)
-    → IsHistory p (at (suc gas) s) (at (suc gas) s ∷ followed o (step p (suc gas) s) (history p gas (effect p s).state))
-followed-is p gas s (Some e) is h = ended p (at (suc gas) s) (step p (suc gas) s) e is refl refl
-followed-is p gas s None is h =
-    let same : step p (suc gas) s ≡ at gas (effect p s).state = ap (λ o. record { state = (effect p s).state; gas = gas; exit = o }) is in
-    one_more p (suc gas) s (history p gas (effect p s).state) (subst (λ (m : Moment). IsHistory p m (history p gas (effect p s).state)) (sym same) h) is
-
-pub history-is : (p : Program) (gas : ℕ) (s : State) → IsHistory p (at gas s) (history p gas s)
-unfolding history
-history-is p zero s = (refl, refl, (refl, refl))
-history-is p (suc gas) s = followed-is p gas s (effect p s).exit refl (history-is p gas (effect p s).state)
-
--- and the only one
 none_has : (m : Moment) → m.exit ≡ None → IsSome m.exit → ⊥
 none_has m going has = let no : is_some m.exit ≡ false = ap is_some going in cc
 
+-- the states up to an end are a history
+one_state : (p : Program) (m : Moment) (o : Option Exit) → m.exit ≡ o → IsSome m.exit → IsHistory p m (m ∷ later o [])
+one_state p m None is has = (refl, has)
+one_state p m (Some e) is has = (refl, has)
+
+states-are_by : (n : ℕ) (p : Program) (m : Moment) (o : Option Exit) → m.exit ≡ o
+    → (IsSome (reached n p (step p m)).exit → IsHistory p (step p m) (states (suc n) p (step p m)))
+    → IsSome (reached (suc n) p m).exit → IsHistory p m (m ∷ later o (states (suc n) p (step p m)))
+unfolding states
+states-are_by n p m (Some e) is rest has = (refl, is_some_of m.exit e is)
+states-are_by n p m None is rest has = (refl, is, rest (subst (λ (k : Moment). IsSome k.exit) (reached-step n p m is) has))
+
+pub states-are : (n : ℕ) (p : Program) (m : Moment) → IsSome (reached n p m).exit → IsHistory p m (states (suc n) p m)
+unfolding states
+states-are zero p m has = one_state p m m.exit refl (subst (λ (k : Moment). IsSome k.exit) (reached-none p m) has)
+states-are (suc n) p m has = states-are_by n p m m.exit refl (states-are n p (step p m)) has
+
+pub history-is : (p : Program) (m : Moment) → IsSchedule m.costs → IsHistory p m (history p m)
+history-is p m is =
+    let end : (e : Exit) × ((reached (m.gas + 1) p m).exit ≡ Some e) = ends (m.gas + 1) p m is (omega arith) in
+    let next : suc (m.gas + 1) ≡ m.gas + 2 = omega arith in
+    subst (λ n. IsHistory p m (states n p m)) next (states-are (m.gas + 1) p m (is_some_of (reached (m.gas + 1) p m).exit end.0 end.1))
+
+-- and the only one
 pub one_history : (p : Program) (m : Moment) (ms ns : List Moment) → IsHistory p m ms → IsHistory p m ns → ms ≡ ns
 one_history p m [] ns h k = absurd h
 one_history p m (a ∷ ms) [] h k = absurd k
@@ -75,27 +47,26 @@ one_history p m (a ∷ []) (b ∷ []) h k = ap (λ x. x ∷ []) (h.0 ∙ sym k.0
 one_history p m (a ∷ []) (b ∷ (c ∷ ns)) h k = absurd (none_has m k.1 h.1)
 one_history p m (a ∷ (c ∷ ms)) (b ∷ []) h k = absurd (none_has m h.1 k.1)
 one_history p m (a ∷ (c ∷ ms)) (b ∷ (d ∷ ns)) h k =
-    let rest : c ∷ ms ≡ d ∷ ns = one_history p (step p m.gas m.state) (c ∷ ms) (d ∷ ns) h.2 k.2 in
+    let rest : c ∷ ms ≡ d ∷ ns = one_history p (step p m) (c ∷ ms) (d ∷ ns) h.2 k.2 in
     let first : a ≡ b = h.0 ∙ sym k.0 in
     cc
 
 -- it has at most gas + 1 steps
-followed-short : (o : Option Exit) (m : Moment) (ms : List Moment) (n : ℕ) → 0 < n → length ms ≤ n → length (followed o m ms) ≤ n
-followed-short None m ms n h le = le
-followed-short (Some e) m ms n h le = omega arith
+later-length : (o : Option Exit) (ms : List Moment) → length (later o ms) ≤ length ms
+later-length None ms = omega arith
+later-length (Some e) ms = omega arith
 
-pub history-short : (p : Program) (gas : ℕ) (s : State) → length (history p gas s) ≤ gas + 2
-unfolding history
-history-short p zero s = omega arith
-history-short p (suc gas) s =
-    let rest : length (followed (effect p s).exit (step p (suc gas) s) (history p gas (effect p s).state)) ≤ gas + 2 = followed-short (effect p s).exit (step p (suc gas) s) (history p gas (effect p s).state) (gas + 2) (omega arith) (history-short p gas (effect p s).state) in
-    omega (arith, rest)
+states-length : (n : ℕ) (p : Program) (m : Moment) → length (states n p m) ≤ n
+unfolding states
+states-length zero p m = omega arith
+states-length (suc n) p m = omega (arith, later-length m.exit (states n p (step p m)), states-length n p (step p m))
 
--- and the gas never rises in it
-step-gas : (p : Program) (gas : ℕ) (s : State) → (step p gas s).gas ≤ gas
-step-gas p zero s = omega arith
-step-gas p (suc gas) s = omega arith
+pub history-short : (p : Program) (m : Moment) (ms : List Moment) → IsSchedule m.costs → IsHistory p m ms → length ms ≤ m.gas + 2
+history-short p m ms is h =
+    let same : length ms ≡ length (history p m) = ap length (one_history p m ms (history p m) h (history-is p m is)) in
+    omega (arith, same, states-length (m.gas + 2) p m)
 
+-- the gas never rises in it
 first_is : (p : Program) (m n : Moment) (ms : List Moment) → IsHistory p m (n ∷ ms) → n ≡ m
 first_is p m n [] h = h.0
 first_is p m n (o ∷ ms) h = h.0
@@ -104,6 +75,45 @@ pub never_rises : (p : Program) (m : Moment) (ms : List Moment) → IsHistory p 
 never_rises p m [] h = absurd h
 never_rises p m (n ∷ []) h = tt
 never_rises p m (n ∷ (o ∷ ms)) h =
-    let second : o.gas ≡ (step p m.gas m.state).gas = ap (λ (k : Moment). k.gas) (first_is p (step p m.gas m.state) o ms h.2) in
+    let second : o.gas ≡ (step p m).gas = ap (λ (k : Moment). k.gas) (first_is p (step p m) o ms h.2) in
     let first : n.gas ≡ m.gas = ap (λ (k : Moment). k.gas) h.0 in
-    (omega (arith, step-gas p m.gas m.state, second, first), never_rises p (step p m.gas m.state) (o ∷ ms) h.2)
+    (omega (arith, step-gas p m, second, first), never_rises p (step p m) (o ∷ ms) h.2)
+
+-- its states are those reached, one after another
+pub nth_is : (n : ℕ) (p : Program) (m d : Moment) (ms : List Moment) → IsHistory p m ms → n < length ms → get_or ms n d ≡ reached n p m
+nth_is n p m d [] h less = absurd h
+nth_is zero p m d (a ∷ []) h less = h.0 ∙ sym (reached-none p m)
+nth_is (suc n) p m d (a ∷ []) h less = absurd (omega (arith, less))
+nth_is zero p m d (a ∷ (b ∷ ms)) h less = h.0 ∙ sym (reached-none p m)
+nth_is (suc n) p m d (a ∷ (b ∷ ms)) h less = nth_is n p (step p m) d (b ∷ ms) h.2 (omega (arith, less)) ∙ sym (reached-step n p m h.1)
+
+-- and the last is the answer
+some_exit : (o : Option Exit) → IsSome o → (e : Exit) × (o ≡ Some e)
+some_exit None has = absurd (false≢true has)
+some_exit (Some e) has = (e, refl)
+
+last_by : (n : ℕ) (p : Program) (m x : Moment) (ms : List Moment) → IsHistory p m ms → length ms ≤ n + 1 → last_of x ms ≡ reached n p m
+last_by n p m x [] h le = absurd h
+last_by n p m x (a ∷ []) h le = let end : (e : Exit) × (m.exit ≡ Some e) = some_exit m.exit h.1 in h.0 ∙ sym (reached-ended n p m end.0 end.1)
+last_by zero p m x (a ∷ (b ∷ ms)) h le = absurd (omega (arith, le))
+last_by (suc n) p m x (a ∷ (b ∷ ms)) h le = last_by n p (step p m) a (b ∷ ms) h.2 (omega (arith, le)) ∙ sym (reached-step n p m h.1)
+
+pub last_is : (p : Program) (m : Moment) (ms : List Moment) → IsSchedule m.costs → IsHistory p m ms → last_of m ms ≡ answer p m
+last_is p m ms is h = last_by (m.gas + 1) p m m ms h (omega (arith, history-short p m ms is h))
+
+-- ---- Gas
+
+-- a state with an exit is the last
+out_last : (p : Program) (b : Moment) (ms : List Moment) → IsHistory p b (b ∷ ms) → b.exit ≡ Some OutOfGas → (last_of b ms).exit ≡ Some OutOfGas
+out_last p b [] h out = out
+out_last p b (c ∷ ms) h out = absurd (none_has b h.1 (is_some_of b.exit OutOfGas out))
+
+-- what is left and what the steps cost is what there was, where the run did not end out of gas
+pub gas_paid : (p : Program) (m x : Moment) (ms : List Moment) → IsHistory p m ms → ((last_of x ms).exit ≡ Some OutOfGas → ⊥) → costs_of p (before_last ms) + (last_of x ms).gas ≡ m.gas
+gas_paid p m x [] h not = absurd h
+gas_paid p m x (a ∷ []) h not = let same : a.gas ≡ m.gas = ap (λ (k : Moment). k.gas) h.0 in omega arith
+gas_paid p m x (a ∷ (b ∷ ms)) h not =
+    let second : b ≡ step p m = first_is p (step p m) b ms h.2 in
+    let cost_same : cost p a ≡ cost p m = ap (cost p) h.0 in
+    let went : (cost p m ≤ m.gas) × ((step p m).gas ≡ m.gas - cost p m) = step-went p m (λ out. not (out_last p b ms (subst (λ (k : Moment). IsHistory p k (b ∷ ms)) (sym second) h.2) (ap (λ (k : Moment). k.exit) second ∙ out))) in
+    omega (arith, gas_paid p (step p m) a (b ∷ ms) h.2 not, cost_same, went)

@@ -1,5 +1,7 @@
-pub mod Effects
-pub mod Gas
-pub mod Histories
-pub mod Reached
-pub mod Named
+mod Acting
+mod Steps
+mod Reached
+mod Turns
+mod Histories
+mod Named
+mod Grown

@@ -1,126 +1,154 @@
--- The state after so many instructions.
-use Rattle.std.proofs.Common.{◌≡◌, ℕ, zero, suc, ◌+◌, ◌-◌, ◌<◌, List, [], ◌∷◌, get_or, arith, ap, sym, ◌∙◌, refl, Option, Some, None}
-use Rattle.blob_decode.specs.Program.{Program}
+-- The state after so many steps.
+use Rattle.std.proofs.Common.{◌≡◌, ℕ, zero, suc, ◌+◌, ◌-◌, ◌<◌, ◌≤◌, ◌∷◌, arith, ap, sym, ◌∙◌, refl, subst, Option, Some, None}
+use Rattle.gas_ledger.specs.Schedule.{Schedule, IsSchedule, plain}
+use Rattle.blob_decode.specs.Program.{Program, op_at}
 use Rattle.pvm_step.specs.declared.exit.Exit.{Exit}
 use Rattle.pvm_step.specs.declared.exit.Exit.TheVariants.{OutOfGas}
-use Rattle.pvm_step.specs.Effect.{State, effect}
-use Rattle.pvm_step.specs.History.{Moment, step, at, followed, history, answer, reached}
-use Rattle.pvm_step.proofs.Histories.{history-first, answer-exit, answer-step}
+use Rattle.pvm_step.specs.History.{Moment, cost, step, followed, reached, answer, later, states, costs_of, gain}
+use Rattle.pvm_step.proofs.Steps.{step-costs, step-went, step-gain, cost-paid, cost_of-plain}
 
--- after none it is the first
-pub reached-none : (p : Program) (gas : ℕ) (s : State) → reached 0 p gas s ≡ at gas s
+-- a state that has ended stays
+pub reached-ended : (n : ℕ) (p : Program) (m : Moment) (e : Exit) → m.exit ≡ Some e → reached n p m ≡ m
 unfolding reached
-reached-none p gas s = let first : (ms : List Moment) × (history p gas s ≡ at gas s ∷ ms) = history-first p gas s in
-    ap (λ (ms : List Moment). get_or ms 0 (answer p gas s)) first.1
+reached-ended zero p m e has = refl
+reached-ended (suc n) p m e has = ap (λ o. reached n p (followed p o m)) has ∙ reached-ended n p m e has
 
-single : (m : Moment) (n : ℕ) → get_or (m ∷ []) n m ≡ m
-single m zero = refl
-single m (suc n) = refl
+-- another goes on with its step
+pub reached-step : (n : ℕ) (p : Program) (m : Moment) → m.exit ≡ None → reached (suc n) p m ≡ reached n p (step p m)
+unfolding reached
+reached-step n p m going = ap (λ o. reached n p (followed p o m)) going
 
--- where the first step ends the run, it is that step after any more
-pub reached-exit : (p : Program) (gas : ℕ) (s : State) (n : ℕ) (e : Exit) → (step p gas s).exit ≡ Some e → reached (suc n) p gas s ≡ step p gas s
-unfolding reached history
-reached-exit p zero s n e h =
-    ap (λ (m : Moment). get_or (step p 0 s ∷ []) n m) (answer-exit p 0 s e h) ∙ single (step p 0 s) n
-reached-exit p (suc gas) s n e h =
-    ap (λ (m : Moment). get_or (followed (effect p s).exit (step p (suc gas) s) (history p gas (effect p s).state)) n m) (answer-exit p (suc gas) s e h)
-    ∙ ap (λ (o : Option Exit). get_or (followed o (step p (suc gas) s) (history p gas (effect p s).state)) n (step p (suc gas) s)) h
-    ∙ single (step p (suc gas) s) n
+pub reached-none : (p : Program) (m : Moment) → reached 0 p m ≡ m
+unfolding reached
+reached-none p m = refl
 
--- else it is as from there on
-pub reached-step : (p : Program) (gas : ℕ) (s : State) (n : ℕ) → (step p gas s).exit ≡ None → reached (suc n) p gas s ≡ reached n p (step p gas s).gas (step p gas s).state
-unfolding reached history
-reached-step p zero s n h = absurd (cc h)
-reached-step p (suc gas) s n h =
-    ap (λ (m : Moment). get_or (followed (effect p s).exit (step p (suc gas) s) (history p gas (effect p s).state)) n m) (answer-step p (suc gas) s h)
-    ∙ ap (λ (o : Option Exit). get_or (followed o (step p (suc gas) s) (history p gas (effect p s).state)) n (answer p gas (effect p s).state)) h
-
--- a run that goes on where it paused
-resumed_by : (p : Program) (gas : ℕ) (s : State) (n m : ℕ) (o : Option Exit) → (step p gas s).exit ≡ o
-    → ((g : ℕ) (t : State) → (reached n p g t).exit ≡ None → reached m p (reached n p g t).gas (reached n p g t).state ≡ reached (n + m) p g t)
-    → (reached (suc n) p gas s).exit ≡ None → reached m p (reached (suc n) p gas s).gas (reached (suc n) p gas s).state ≡ reached (suc (n + m)) p gas s
-resumed_by p gas s n m (Some e) is rest going =
-    absurd (let ends : (reached (suc n) p gas s).exit ≡ Some e = ap (λ (k : Moment). k.exit) (reached-exit p gas s n e is) ∙ is in cc)
-resumed_by p gas s n m None is rest going =
-    let here : reached (suc n) p gas s ≡ reached n p (step p gas s).gas (step p gas s).state = reached-step p gas s n is in
-    ap (λ (k : Moment). reached m p k.gas k.state) here
-    ∙ rest (step p gas s).gas (step p gas s).state (ap (λ (k : Moment). k.exit) (sym here) ∙ going)
-    ∙ sym (reached-step p gas s (n + m) is)
-
-pub resumed : (n m : ℕ) (p : Program) (gas : ℕ) (s : State) → (reached n p gas s).exit ≡ None → reached m p (reached n p gas s).gas (reached n p gas s).state ≡ reached (n + m) p gas s
-resumed zero m p gas s going =
-    ap (λ (k : Moment). reached m p k.gas k.state) (reached-none p gas s) ∙ ap (λ (k : ℕ). reached k p gas s) (omega arith)
-resumed (suc n) m p gas s going =
-    resumed_by p gas s n m (step p gas s).exit refl (λ g t. resumed n m p g t) going ∙ ap (λ (k : ℕ). reached k p gas s) (omega arith)
+-- a run that goes on is the run in one piece
+pub resumed : (n k : ℕ) (p : Program) (m : Moment) → reached k p (reached n p m) ≡ reached (n + k) p m
+unfolding reached
+resumed zero k p m = let none : k ≡ zero + k = omega arith in ap (λ j. reached j p m) none
+resumed (suc n) k p m =
+    let next : suc (n + k) ≡ suc n + k = omega arith in
+    resumed n k p (followed p m.exit m) ∙ ap (λ j. reached j p m) next
 
 -- one that ended stays so
-ended_by : (p : Program) (gas : ℕ) (s : State) (n m : ℕ) (e : Exit) (o : Option Exit) → (step p gas s).exit ≡ o
-    → ((g : ℕ) (t : State) → (reached n p g t).exit ≡ Some e → reached (n + m) p g t ≡ reached n p g t)
-    → (reached (suc n) p gas s).exit ≡ Some e → reached (suc (n + m)) p gas s ≡ reached (suc n) p gas s
-ended_by p gas s n m e (Some f) is rest has = reached-exit p gas s (n + m) f is ∙ sym (reached-exit p gas s n f is)
-ended_by p gas s n m e None is rest has =
-    let here : reached (suc n) p gas s ≡ reached n p (step p gas s).gas (step p gas s).state = reached-step p gas s n is in
-    reached-step p gas s (n + m) is ∙ rest (step p gas s).gas (step p gas s).state (ap (λ (k : Moment). k.exit) (sym here) ∙ has) ∙ sym here
-
-pub stays_ended : (n m : ℕ) (p : Program) (gas : ℕ) (s : State) (e : Exit) → (reached n p gas s).exit ≡ Some e → reached (n + m) p gas s ≡ reached n p gas s
-stays_ended zero m p gas s e has = absurd (let none : (reached 0 p gas s).exit ≡ None = ap (λ (k : Moment). k.exit) (reached-none p gas s) in cc)
-stays_ended (suc n) m p gas s e has =
-    ap (λ (k : ℕ). reached k p gas s) (omega arith) ∙ ended_by p gas s n m e (step p gas s).exit refl (λ g t. stays_ended n m p g t e) has
-
--- each instruction costs 1
-cost_by : (p : Program) (gas : ℕ) (s : State) (n : ℕ) (o : Option Exit) → (step p gas s).exit ≡ o
-    → ((g : ℕ) (t : State) → (reached n p g t).exit ≡ None → n + (reached n p g t).gas ≡ g)
-    → (reached (suc n) p gas s).exit ≡ None → suc n + (reached (suc n) p gas s).gas ≡ gas
-cost_by p gas s n (Some e) is rest going =
-    absurd (let ends : (reached (suc n) p gas s).exit ≡ Some e = ap (λ (k : Moment). k.exit) (reached-exit p gas s n e is) ∙ is in cc)
-cost_by p zero s n None is rest going = absurd (cc is)
-cost_by p (suc gas) s n None is rest going =
-    let here : reached (suc n) p (suc gas) s ≡ reached n p gas (effect p s).state = reached-step p (suc gas) s n is in
-    let same : (reached (suc n) p (suc gas) s).gas ≡ (reached n p gas (effect p s).state).gas = ap (λ (k : Moment). k.gas) here in
-    let left : n + (reached n p gas (effect p s).state).gas ≡ gas = rest gas (effect p s).state (ap (λ (k : Moment). k.exit) (sym here) ∙ going) in
-    omega arith
-
-pub each_costs : (n : ℕ) (p : Program) (gas : ℕ) (s : State) → (reached n p gas s).exit ≡ None → n + (reached n p gas s).gas ≡ gas
-each_costs zero p gas s going = let same : (reached 0 p gas s).gas ≡ gas = ap (λ (k : Moment). k.gas) (reached-none p gas s) in omega arith
-each_costs (suc n) p gas s going = cost_by p gas s n (step p gas s).exit refl (λ g t. each_costs n p g t) going
+pub stays_ended : (n k : ℕ) (p : Program) (m : Moment) (e : Exit) → (reached n p m).exit ≡ Some e → reached (n + k) p m ≡ reached n p m
+stays_ended n k p m e has = sym (resumed n k p m) ∙ reached-ended k p (reached n p m) e has
 
 -- ---- One instruction more than were made
 
--- a moment without an exit is a state with a gas
-bare : (m : Moment) → m.exit ≡ None → at m.gas m.state ≡ m
-bare m h = ap (λ o. record { state = m.state; gas = m.gas; exit = o }) (sym h)
-
-pub made-more : (p : Program) (gas : ℕ) (s : State) (n : ℕ) (h m : Moment) → h.exit ≡ None → h ≡ reached n p gas s → m.exit ≡ None → m ≡ step p h.gas h.state → m ≡ reached (n + 1) p gas s
-made-more p gas s n h m first is going stepped =
-    let going_on : (reached n p gas s).exit ≡ None = ap (λ (k : Moment). k.exit) (sym is) ∙ first in
-    let none : (step p h.gas h.state).exit ≡ None = ap (λ (k : Moment). k.exit) (sym stepped) ∙ going in
-    sym (bare m going)
-    ∙ ap (λ (k : Moment). at k.gas k.state) stepped
-    ∙ sym (reached-none p (step p h.gas h.state).gas (step p h.gas h.state).state)
-    ∙ sym (reached-step p h.gas h.state 0 none)
-    ∙ ap (λ (k : Moment). reached 1 p k.gas k.state) is
-    ∙ resumed n 1 p gas s going_on
-
-pub made-last : (p : Program) (gas : ℕ) (s : State) (n fuel : ℕ) (h m : Moment) (e : Exit) → n < fuel → h.exit ≡ None → h ≡ reached n p gas s → m.exit ≡ Some e → m ≡ step p h.gas h.state → m ≡ reached fuel p gas s
-made-last p gas s n fuel h m e less first is ends stepped =
-    let going_on : (reached n p gas s).exit ≡ None = ap (λ (k : Moment). k.exit) (sym is) ∙ first in
-    let some : (step p h.gas h.state).exit ≡ Some e = ap (λ (k : Moment). k.exit) (sym stepped) ∙ ends in
+pub made-more : (p : Program) (m : Moment) (n : ℕ) (h x : Moment) → h.exit ≡ None → h ≡ reached n p m → x ≡ step p h → x ≡ reached (n + 1) p m
+made-more p m n h x going is stepped =
     stepped
-    ∙ sym (reached-exit p h.gas h.state (fuel - (n + 1)) e some)
-    ∙ ap (λ (k : Moment). reached (suc (fuel - (n + 1))) p k.gas k.state) is
-    ∙ resumed n (suc (fuel - (n + 1))) p gas s going_on
-    ∙ ap (λ (k : ℕ). reached k p gas s) (omega arith)
+    ∙ sym (reached-none p (step p h))
+    ∙ sym (reached-step 0 p h going)
+    ∙ ap (reached 1 p) is
+    ∙ resumed n 1 p m
+
+pub made-last : (p : Program) (m : Moment) (n fuel : ℕ) (h x : Moment) (e : Exit) → n < fuel → h.exit ≡ None → h ≡ reached n p m → x.exit ≡ Some e → x ≡ step p h → x ≡ reached fuel p m
+made-last p m n fuel h x e less going is ends stepped =
+    let here : x ≡ reached (n + 1) p m = made-more p m n h x going is stepped in
+    let all : n + 1 + (fuel - (n + 1)) ≡ fuel = omega arith in
+    here
+    ∙ sym (stays_ended (n + 1) (fuel - (n + 1)) p m e (ap (λ (k : Moment). k.exit) (sym here) ∙ ends))
+    ∙ ap (λ k. reached k p m) all
+
+-- ---- Gas
+
+has_no : (m : Moment) (e : Exit) → m.exit ≡ Some e → m.exit ≡ None → ⊥
+has_no m e has none = cc
+
+-- where a run goes on after one step more, that step was paid
+record Goes (n : ℕ) (p : Program) (m : Moment) : Type 0 where
+  first : m.exit ≡ None
+  here : reached (suc n) p m ≡ reached n p (step p m)
+  on : (reached n p (step p m)).exit ≡ None
+  enough : cost p m ≤ m.gas
+  paid : (step p m).gas ≡ m.gas - cost p m
+
+goes_by : (n : ℕ) (p : Program) (m : Moment) (o : Option Exit) → m.exit ≡ o → (reached (suc n) p m).exit ≡ None → Goes n p m
+goes_by n p m (Some e) is going = absurd (has_no m e is (ap (λ (k : Moment). k.exit) (sym (reached-ended (suc n) p m e is)) ∙ going))
+goes_by n p m None is going =
+    let here : reached (suc n) p m ≡ reached n p (step p m) = reached-step n p m is in
+    let on : (reached n p (step p m)).exit ≡ None = ap (λ (k : Moment). k.exit) (sym here) ∙ going in
+    let went : (cost p m ≤ m.gas) × ((step p m).gas ≡ m.gas - cost p m) =
+    step-went p m (λ out. has_no (reached n p (step p m)) OutOfGas (ap (λ (k : Moment). k.exit) (reached-ended n p (step p m) OutOfGas out) ∙ out) on) in
+    record { first = is; here = here; on = on; enough = went.0; paid = went.1 }
+
+goes : (n : ℕ) (p : Program) (m : Moment) → (reached (suc n) p m).exit ≡ None → Goes n p m
+goes n p m going = goes_by n p m m.exit refl going
+
+-- the steps of a run that goes on cost what is gone
+pub costs_paid : (n : ℕ) (p : Program) (m : Moment) → (reached n p m).exit ≡ None → costs_of p (states n p m) + (reached n p m).gas ≡ m.gas
+unfolding states
+costs_paid zero p m going = let same : (reached 0 p m).gas ≡ m.gas = ap (λ (k : Moment). k.gas) (reached-none p m) in omega arith
+costs_paid (suc n) p m going =
+    let g : Goes n p m = goes n p m going in
+    let same : (reached (suc n) p m).gas ≡ (reached n p (step p m)).gas = ap (λ (k : Moment). k.gas) g.here in
+    let all : costs_of p (m ∷ later m.exit (states n p (step p m))) ≡ cost p m + costs_of p (states n p (step p m)) =
+    ap (λ o. cost p m + costs_of p (later o (states n p (step p m)))) g.first in
+    omega (arith, all, costs_paid n p (step p m) g.on, same, g.enough, g.paid)
+
+step-schedule : (p : Program) (m : Moment) → IsSchedule m.costs → IsSchedule (step p m).costs
+step-schedule p m is = subst IsSchedule (sym (step-costs p m)) is
+
+-- each step costs at least 1
+pub each_costs : (n : ℕ) (p : Program) (m : Moment) → IsSchedule m.costs → (reached n p m).exit ≡ None → n + (reached n p m).gas ≤ m.gas
+each_costs zero p m is going = let same : (reached 0 p m).gas ≡ m.gas = ap (λ (k : Moment). k.gas) (reached-none p m) in omega arith
+each_costs (suc n) p m is going =
+    let g : Goes n p m = goes n p m going in
+    let same : (reached (suc n) p m).gas ≡ (reached n p (step p m)).gas = ap (λ (k : Moment). k.gas) g.here in
+    omega (arith, each_costs n p (step p m) (step-schedule p m is) g.on, same, g.enough, g.paid, cost-paid p m is)
+
+-- and in the plain schedule it costs 1
+pub each_costs_one : (n : ℕ) (p : Program) (m : Moment) → m.costs ≡ plain → (reached n p m).exit ≡ None → n + (reached n p m).gas ≡ m.gas
+each_costs_one zero p m is going = let same : (reached 0 p m).gas ≡ m.gas = ap (λ (k : Moment). k.gas) (reached-none p m) in omega arith
+each_costs_one (suc n) p m is going =
+    let g : Goes n p m = goes n p m going in
+    let same : (reached (suc n) p m).gas ≡ (reached n p (step p m)).gas = ap (λ (k : Moment). k.gas) g.here in
+    omega (arith, each_costs_one n p (step p m) (step-costs p m ∙ is) g.on, same, g.enough, g.paid, cost_of-plain m.costs (op_at p m.state.pc) (ap (λ (k : Schedule). k.forms) is))
 
 -- ---- The answer
 
-reached-answer_by : (p : Program) (gas : ℕ) (s : State) (o : Option Exit) → (step p gas s).exit ≡ o
-    → ((step p gas s).exit ≡ None → reached gas p (step p gas s).gas (step p gas s).state ≡ answer p (step p gas s).gas (step p gas s).state)
-    → reached (suc gas) p gas s ≡ answer p gas s
-reached-answer_by p gas s (Some e) is rest = reached-exit p gas s gas e is ∙ sym (answer-exit p gas s e is)
-reached-answer_by p gas s None is rest = reached-step p gas s gas is ∙ rest is ∙ sym (answer-step p gas s is)
+some_of : (o : Option Exit) → (o ≡ None → ⊥) → (e : Exit) × (o ≡ Some e)
+some_of None not = absurd (not refl)
+some_of (Some e) not = (e, refl)
 
-pub reached-answer : (gas : ℕ) (p : Program) (s : State) → reached (gas + 1) p gas s ≡ answer p gas s
-reached-answer zero p s = reached-exit p 0 s 0 OutOfGas refl ∙ sym (answer-exit p 0 s OutOfGas refl)
-reached-answer (suc gas) p s =
-    ap (λ (k : ℕ). reached k p (suc gas) s) (omega arith)
-    ∙ reached-answer_by p (suc gas) s (step p (suc gas) s).exit refl (λ h. ap (λ (k : ℕ). reached k p gas (effect p s).state) (omega arith) ∙ reached-answer gas p (effect p s).state)
+-- more steps than the gas are its end
+pub ends : (n : ℕ) (p : Program) (m : Moment) → IsSchedule m.costs → m.gas < n → (e : Exit) × ((reached n p m).exit ≡ Some e)
+ends n p m is less = some_of (reached n p m).exit (λ going. omega (arith, each_costs n p m is going, less))
+
+pub reached-answer : (n : ℕ) (p : Program) (m : Moment) → IsSchedule m.costs → m.gas < n → reached n p m ≡ answer p m
+reached-answer n p m is less =
+    let end : (e : Exit) × ((reached (m.gas + 1) p m).exit ≡ Some e) = ends (m.gas + 1) p m is (omega arith) in
+    let all : n ≡ m.gas + 1 + (n - (m.gas + 1)) = omega arith in
+    ap (λ k. reached k p m) all ∙ stays_ended (m.gas + 1) (n - (m.gas + 1)) p m end.0 end.1
+
+-- ---- With more gas
+
+gains_by : (n : ℕ) (p : Program) (m : Moment) (more : ℕ) (o : Option Exit) → m.exit ≡ o
+    → (((reached n p (step p m)).exit ≡ Some OutOfGas → ⊥) → reached n p (gain more (step p m)) ≡ gain more (reached n p (step p m)))
+    → ((reached (suc n) p m).exit ≡ Some OutOfGas → ⊥) → reached (suc n) p (gain more m) ≡ gain more (reached (suc n) p m)
+gains_by n p m more (Some e) is rest not = reached-ended (suc n) p (gain more m) e is ∙ sym (ap (gain more) (reached-ended (suc n) p m e is))
+gains_by n p m more None is rest not =
+    let here : reached (suc n) p m ≡ reached n p (step p m) = reached-step n p m is in
+    let on : (reached n p (step p m)).exit ≡ Some OutOfGas → ⊥ = λ out. not (ap (λ (k : Moment). k.exit) here ∙ out) in
+    let went : (cost p m ≤ m.gas) × ((step p m).gas ≡ m.gas - cost p m) =
+    step-went p m (λ out. on (ap (λ (k : Moment). k.exit) (reached-ended n p (step p m) OutOfGas out) ∙ out)) in
+    reached-step n p (gain more m) is
+    ∙ ap (reached n p) (step-gain p m more went.0)
+    ∙ rest on
+    ∙ sym (ap (gain more) here)
+
+-- a run is the same as far as the smaller gas goes
+pub reached-gain : (n : ℕ) (p : Program) (m : Moment) (more : ℕ) → ((reached n p m).exit ≡ Some OutOfGas → ⊥) → reached n p (gain more m) ≡ gain more (reached n p m)
+reached-gain zero p m more not = reached-none p (gain more m) ∙ sym (ap (gain more) (reached-none p m))
+reached-gain (suc n) p m more not = gains_by n p m more m.exit refl (reached-gain n p (step p m) more) not
+
+pub answer-gain : (p : Program) (m : Moment) (more : ℕ) → IsSchedule m.costs → ((answer p m).exit ≡ Some OutOfGas → ⊥) → answer p (gain more m) ≡ gain more (answer p m)
+answer-gain p m more is not =
+    let same : reached (m.gas + 1) p (gain more m) ≡ gain more (answer p m) = reached-gain (m.gas + 1) p m more not in
+    let end : (e : Exit) × ((answer p m).exit ≡ Some e) = ends (m.gas + 1) p m is (omega arith) in
+    let all : m.gas + more + 1 ≡ m.gas + 1 + more = omega arith in
+    ap (λ k. reached k p (gain more m)) all
+    ∙ stays_ended (m.gas + 1) more p (gain more m) end.0 (ap (λ (k : Moment). k.exit) same ∙ end.1)
+    ∙ same

@@ -310,9 +310,15 @@ after p s (Moves holds register value) = goes (if holds then given s register va
 after p s (Grows register amount) = goes (grows s register amount) (next p s.pc)
 
 -- what the instruction of an opcode does at the pc
+abbrev pub act_of : Op → Program → State → Act
+act_of op p s = line op (arguments (form_of op) p.code s.pc (skip p s.pc)) s
+
 unfoldable pub outcome : Op → Program → State → After
-outcome op p s = after p s (line op (arguments (form_of op) p.code s.pc (skip p s.pc)) s)
+outcome op p s = after p s (act_of op p s)
 
 -- what the instruction at the pc does
+abbrev pub act_at : Program → State → Act
+act_at p s = act_of (op_at p s.pc) p s
+
 unfoldable pub effect : Program → State → After
 effect p s = outcome (op_at p s.pc) p s

@@ -1,6 +1,7 @@
 -- The machine of the code as the definitions see it.
-use Rattle.std.specs.Prelude.{◌≡◌, ℕ, ◌-◌, ◌<◌, ◌≤◌, length, ◌⊎◌, ◌^◌, List, Bool, true, false, Option, Some, None, refl}
+use Rattle.std.specs.Prelude.{◌≡◌, ℕ, ◌<◌, ◌≤◌, length, ◌⊎◌, ◌^◌, List, Bool, true, false, Option, Some, None, refl}
 use Rattle.std.specs.Coded.{Coded, code_by, coded×, coded_ℕ, coded_bool, coded_list}
+use Rattle.gas_ledger.specs.Schedule.{Schedule, schedule_code}
 use Rattle.pvm_isa.specs.Arguments.{IsWindow}
 use Rattle.blob_decode.specs.Program.{Program, next, skip}
 use Rattle.pvm_step.specs.declared.at.At.{At}
@@ -8,14 +9,14 @@ use Rattle.paged_memory.specs.PageMap.{Memory}
 use Rattle.paged_memory.specs.Codes.{memory_code}
 use Rattle.pvm_step.specs.declared.exit.Exit.{Exit}
 use Rattle.pvm_step.specs.declared.exit.Exit.TheVariants.{Panic}
-use Rattle.pvm_step.specs.declared.went.Went.{Went}
-use Rattle.pvm_step.specs.declared.went.Went.TheVariants.{On, Jumped, Panics, Beyond}
+use Rattle.pvm_step.specs.declared.attempt.Attempt.{Attempt}
+use Rattle.pvm_step.specs.declared.attempt.Attempt.TheVariants.{Next, Jumped, Panics, Beyond}
 use Rattle.pvm_step.specs.declared.exit.Progress.{Progress}
 use Rattle.pvm_step.specs.declared.exit.Progress.TheVariants.{Ended, Paused}
 use Rattle.pvm_step.specs.Effect.{State, Heap, After}
 use Rattle.pvm_step.specs.History.{Moment}
 
--- a program with a place in it, registers, a memory, a heap, and the gas left
+-- a program with a place in it, registers, a memory, a heap, the gas left, and what instructions cost
 pub record Machine : Type 0 where
   pub program : Program
   pub pc : ℕ
@@ -23,15 +24,22 @@ pub record Machine : Type 0 where
   pub memory : Memory
   pub heap : Heap
   pub gas : ℕ
+  pub costs : Schedule
 
 -- this is where the machine stands, within the code, and what is read there
 pub record IsAt (at : At) (m : Machine) : Type 0 where
   pub here : at.pc ≡ m.pc
   pub within : m.pc < length m.program.code
-  pub next : at.next ≡ next m.program m.pc
-  pub skip : at.skip ≡ skip m.program m.pc
-  pub short : at.skip ≤ 24
-  pub window : IsWindow m.program.code m.pc at.bytes
+  pub next : at.found.next ≡ next m.program m.pc
+  pub skip : at.found.skip ≡ skip m.program m.pc
+  pub short : at.found.skip ≤ 24
+  pub window : IsWindow m.program.code m.pc at.found.bytes
+
+-- what instructions leave: the program, the gas and the schedule
+pub record ChangesStateAlone (m n : Machine) : Type 0 where
+  pub program : n.program ≡ m.program
+  pub gas : n.gas ≡ m.gas
+  pub costs : n.costs ≡ m.costs
 
 abbrev pub state_of : Machine → State
 state_of m = record { pc = m.pc; registers = m.registers; memory = m.memory; heap = m.heap }
@@ -40,11 +48,11 @@ abbrev pub after_of : Machine → Option Exit → After
 after_of m exit = record { state = state_of m; exit = exit }
 
 abbrev pub moment : Machine → Option Exit → Moment
-moment m exit = record { state = state_of m; gas = m.gas; exit = exit }
+moment m exit = record { state = state_of m; gas = m.gas; costs = m.costs; exit = exit }
 
--- the same when gas is taken for the instructions made
-abbrev pub paid : Machine → ℕ → Option Exit → Moment
-paid m made exit = record { state = state_of m; gas = m.gas - made; exit = exit }
+-- the same where so much gas is left
+abbrev pub with_gas : Machine → ℕ → Option Exit → Moment
+with_gas m gas exit = record { state = state_of m; gas = gas; costs = m.costs; exit = exit }
 
 -- the exit of a run, if it ended
 abbrev pub exit_in : Progress → Option Exit
@@ -52,14 +60,14 @@ exit_in (Ended exit) = Some exit
 exit_in Paused = None
 
 -- the exit of an instruction that goes on or panics, and whether there was one
-abbrev pub exit_after : Went → Option Exit
-exit_after On = None
+abbrev pub exit_after : Attempt → Option Exit
+exit_after Next = None
 exit_after Jumped = None
 exit_after Panics = Some Panic
 exit_after Beyond = None
 
-abbrev pub is_done : Went → Bool
-is_done On = true
+abbrev pub is_done : Attempt → Bool
+is_done Next = true
 is_done Jumped = true
 is_done Panics = true
 is_done Beyond = false
@@ -78,6 +86,6 @@ program_code = code_by (ℕ × (List ℕ × (List ℕ × List Bool))) (coded× c
     (λ p. (p.width, (p.jumps, (p.code, p.mask)))) (λ p. record { width = p.0; jumps = p.1.0; code = p.1.1.0; mask = p.1.1.1 }) (λ _. refl)
 
 abbrev pub machine_code : Coded Machine
-machine_code = code_by (Program × (ℕ × (List ℕ × (Memory × (Heap × ℕ))))) (coded× program_code (coded× coded_ℕ (coded× (coded_list coded_ℕ) (coded× memory_code (coded× heap_code coded_ℕ)))))
-    (λ m. (m.program, (m.pc, (m.registers, (m.memory, (m.heap, m.gas))))))
-    (λ m. record { program = m.0; pc = m.1.0; registers = m.1.1.0; memory = m.1.1.1.0; heap = m.1.1.1.1.0; gas = m.1.1.1.1.1 }) (λ _. refl)
+machine_code = code_by (Program × (ℕ × (List ℕ × (Memory × (Heap × (ℕ × Schedule)))))) (coded× program_code (coded× coded_ℕ (coded× (coded_list coded_ℕ) (coded× memory_code (coded× heap_code (coded× coded_ℕ schedule_code))))))
+    (λ m. (m.program, (m.pc, (m.registers, (m.memory, (m.heap, (m.gas, m.costs)))))))
+    (λ m. record { program = m.0; pc = m.1.0; registers = m.1.1.0; memory = m.1.1.1.0; heap = m.1.1.1.1.0; gas = m.1.1.1.1.1.0; costs = m.1.1.1.1.1.1 }) (λ _. refl)

@@ -1,9 +1,9 @@
 -- What an effect names: the register that it may set, and the bytes that it may change.
-use Rattle.std.specs.Prelude.{ℕ, Bool, true, false, List, [], Option, Some, None}
+use Rattle.std.specs.Prelude.{◌≡◌, ℕ, ◌+◌, ◌<◌, ◌≤◌, Bool, true, false, List, [], Option, Some, None}
 use Rattle.pvm_isa.specs.declared.op.Op.{Op}
 use Rattle.pvm_isa.specs.declared.op.Op.TheVariants.{Ecalli, StoreImmU8, StoreImmU16, StoreImmU32, StoreImmU64, JumpInd, LoadU8, LoadI8, LoadU16, LoadI16, LoadU32, LoadI32, LoadU64, StoreU8, StoreU16, StoreU32, StoreU64, StoreImmIndU8, StoreImmIndU16, StoreImmIndU32, StoreImmIndU64, Sbrk, StoreIndU8, StoreIndU16, StoreIndU32, StoreIndU64, LoadIndU8, LoadIndI8, LoadIndU16, LoadIndI16, LoadIndU32, LoadIndI32, LoadIndU64, LoadImmJumpInd}
-use Rattle.paged_memory.specs.PageMap.{addresses}
-use Rattle.pvm_step.specs.Effect.{Act, Nothing, Exits, Gives, Loads, Stores, Jumps, Branches, JumpsThrough, GivesAndJumps, GivesAndJumpsThrough, Moves, Grows}
+use Rattle.paged_memory.specs.PageMap.{Page, Write, page_of, blank, addresses}
+use Rattle.pvm_step.specs.Effect.{State, Act, Nothing, Exits, Gives, Loads, Stores, Jumps, Branches, JumpsThrough, GivesAndJumps, GivesAndJumpsThrough, Moves, Grows}
 
 abbrev pub register_of : Act → Option ℕ
 register_of Nothing = None
@@ -29,6 +29,14 @@ abbrev pub changes_memory : Act → Bool
 changes_memory (Stores width to value) = true
 changes_memory (Grows register amount) = true
 changes_memory act = false
+
+-- a page has one of so many bytes from the heap's next one on
+abbrev pub Touches : State → ℕ → ℕ → Type 0
+Touches s amount page = (address : ℕ) × (s.heap.next ≤ address) × (address < s.heap.next + amount) × (page_of address ≡ page)
+
+-- a page that may be written, with bytes 0
+abbrev pub new_page : Page
+new_page = record { right = Write; bytes = blank }
 
 -- opcodes that work on the registers and the pc alone: no memory, no heap, no jump table and no host
 unfoldable pub on_registers : Op → Bool

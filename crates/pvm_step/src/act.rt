@@ -1,15 +1,15 @@
 // What each opcode does. Each arm names its opcode, so that only the work of that one is left in it.
-ghost use Rattle.std.specs.Prelude.{◌≡◌, ◌<◌, ◌≤◌, true, false, length, IfOk, OnErr};
+ghost use Rattle.std.specs.Prelude.{◌≡◌, true, false, IfOk, OnErr};
 ghost use Rattle.blob_decode.specs.Program as blob;
-ghost use Rattle.pvm_step.specs.Effect.{outcome};
-ghost use Rattle.pvm_step.specs.declared.went.Went.TheVariants.{On};
-ghost use Rattle.pvm_step.specs.Machine.{IsAt, state_of, after_of, exit_after, is_done};
-ghost use Rattle.pvm_step.specs.Named.{on_registers};
+ghost use Rattle.pvm_step.specs.Effect.{outcome, act_of};
+ghost use Rattle.pvm_step.specs.declared.attempt.Attempt.TheVariants.{Next};
+ghost use Rattle.pvm_step.specs.Machine.{IsAt, ChangesStateAlone, state_of, after_of, exit_after, is_done};
+ghost use Rattle.pvm_step.specs.Named.{on_registers, changes_memory};
 
 use crate::at::At;
+use crate::attempt::Attempt;
 use crate::exit::Exit;
 use crate::machine::Machine;
-use crate::went::Went;
 use pvm_isa::Op;
 use std::alloc::AllocError;
 
@@ -17,32 +17,31 @@ impl Machine {
     /// Does the instruction of an opcode that works on the registers alone; of another it does nothing.
     #[inline(always)]
     #[tactic(auto, unfolding(crate::specs::Effect::line, crate::specs::Named::on_registers, pvm_isa::specs::Opcodes::entry, pvm_alu::specs::Alu::binary_line, pvm_alu::specs::Alu::unary_line, pvm_alu::specs::Alu::test_line))]
-    pub(crate) fn act_on_registers(&mut self, at: At) -> Went
+    pub(crate) fn act_on_registers(&mut self, at: At) -> Attempt
         requires at { IsAt at self.old }
-        ensures acts { is_done result ≡ true → after_of self.new (exit_after result) ≡ outcome at.op self.old.program (state_of self.old) }
-        ensures next { result ≡ On → self.new.pc ≡ blob.next self.old.program self.old.pc }
-        ensures done { is_done result ≡ on_registers at.op }
-        ensures same { result ≡ Went.Beyond → self.new ≡ self.old }
-        ensures program { self.new.program ≡ self.old.program }
-        ensures gas { self.new.gas ≡ self.old.gas }
+        ensures acts { is_done result ≡ true → after_of self.new (exit_after result) ≡ outcome at.found.op self.old.program (state_of self.old) }
+        ensures next { result ≡ Next → self.new.pc ≡ blob.next self.old.program self.old.pc }
+        ensures done { is_done result ≡ on_registers at.found.op }
+        ensures same { result ≡ Attempt.Beyond → self.new ≡ self.old }
+        ensures rest { ChangesStateAlone self.old self.new }
     {
-        match at.op {
-            Op::Trap => Went::Panics,
+        match at.found.op {
+            Op::Trap => Attempt::Panics,
             Op::Fallthrough => self.fall_through(at),
-            Op::LoadImm64 => self.load_imm_64(at.pc, at.skip),
-            Op::Jump => self.jump_on(at.pc, at.skip),
-            Op::LoadImm => self.load_imm(at.pc, at.skip),
-            Op::LoadImmJump => self.load_imm_jump(at.pc, at.skip),
-            Op::BranchEqImm => self.branch_on_a_x(Op::BranchEqImm, at.pc, at.skip, at.bytes),
-            Op::BranchNeImm => self.branch_on_a_x(Op::BranchNeImm, at.pc, at.skip, at.bytes),
-            Op::BranchLtUImm => self.branch_on_a_x(Op::BranchLtUImm, at.pc, at.skip, at.bytes),
-            Op::BranchLeUImm => self.branch_on_a_x(Op::BranchLeUImm, at.pc, at.skip, at.bytes),
-            Op::BranchGeUImm => self.branch_on_a_x(Op::BranchGeUImm, at.pc, at.skip, at.bytes),
-            Op::BranchGtUImm => self.branch_on_a_x(Op::BranchGtUImm, at.pc, at.skip, at.bytes),
-            Op::BranchLtSImm => self.branch_on_a_x(Op::BranchLtSImm, at.pc, at.skip, at.bytes),
-            Op::BranchLeSImm => self.branch_on_a_x(Op::BranchLeSImm, at.pc, at.skip, at.bytes),
-            Op::BranchGeSImm => self.branch_on_a_x(Op::BranchGeSImm, at.pc, at.skip, at.bytes),
-            Op::BranchGtSImm => self.branch_on_a_x(Op::BranchGtSImm, at.pc, at.skip, at.bytes),
+            Op::LoadImm64 => self.load_imm_64(at),
+            Op::Jump => self.jump_on(at),
+            Op::LoadImm => self.load_imm(at),
+            Op::LoadImmJump => self.load_imm_jump(at),
+            Op::BranchEqImm => self.branch_on_a_x(Op::BranchEqImm, at),
+            Op::BranchNeImm => self.branch_on_a_x(Op::BranchNeImm, at),
+            Op::BranchLtUImm => self.branch_on_a_x(Op::BranchLtUImm, at),
+            Op::BranchLeUImm => self.branch_on_a_x(Op::BranchLeUImm, at),
+            Op::BranchGeUImm => self.branch_on_a_x(Op::BranchGeUImm, at),
+            Op::BranchGtUImm => self.branch_on_a_x(Op::BranchGtUImm, at),
+            Op::BranchLtSImm => self.branch_on_a_x(Op::BranchLtSImm, at),
+            Op::BranchLeSImm => self.branch_on_a_x(Op::BranchLeSImm, at),
+            Op::BranchGeSImm => self.branch_on_a_x(Op::BranchGeSImm, at),
+            Op::BranchGtSImm => self.branch_on_a_x(Op::BranchGtSImm, at),
             Op::MoveReg => self.move_reg(at),
             Op::CountSetBits64 => self.give_of_a(Op::CountSetBits64, at),
             Op::CountSetBits32 => self.give_of_a(Op::CountSetBits32, at),
@@ -70,8 +69,8 @@ impl Machine {
             Op::ShloLImmAlt32 => self.give_of_b_x(Op::ShloLImmAlt32, at),
             Op::ShloRImmAlt32 => self.give_of_b_x(Op::ShloRImmAlt32, at),
             Op::SharRImmAlt32 => self.give_of_b_x(Op::SharRImmAlt32, at),
-            Op::CmovIzImm => self.cmov_iz_imm(at.pc, at.skip),
-            Op::CmovNzImm => self.cmov_nz_imm(at.pc, at.skip),
+            Op::CmovIzImm => self.cmov_iz_imm(at),
+            Op::CmovNzImm => self.cmov_nz_imm(at),
             Op::AddImm64 => self.give_of_b_x(Op::AddImm64, at),
             Op::MulImm64 => self.give_of_b_x(Op::MulImm64, at),
             Op::ShloLImm64 => self.give_of_b_x(Op::ShloLImm64, at),
@@ -85,12 +84,12 @@ impl Machine {
             Op::RotR64ImmAlt => self.give_of_b_x(Op::RotR64ImmAlt, at),
             Op::RotR32Imm => self.give_of_b_x(Op::RotR32Imm, at),
             Op::RotR32ImmAlt => self.give_of_b_x(Op::RotR32ImmAlt, at),
-            Op::BranchEq => self.branch_on_a_b(Op::BranchEq, at.pc, at.skip, at.bytes),
-            Op::BranchNe => self.branch_on_a_b(Op::BranchNe, at.pc, at.skip, at.bytes),
-            Op::BranchLtU => self.branch_on_a_b(Op::BranchLtU, at.pc, at.skip, at.bytes),
-            Op::BranchLtS => self.branch_on_a_b(Op::BranchLtS, at.pc, at.skip, at.bytes),
-            Op::BranchGeU => self.branch_on_a_b(Op::BranchGeU, at.pc, at.skip, at.bytes),
-            Op::BranchGeS => self.branch_on_a_b(Op::BranchGeS, at.pc, at.skip, at.bytes),
+            Op::BranchEq => self.branch_on_a_b(Op::BranchEq, at),
+            Op::BranchNe => self.branch_on_a_b(Op::BranchNe, at),
+            Op::BranchLtU => self.branch_on_a_b(Op::BranchLtU, at),
+            Op::BranchLtS => self.branch_on_a_b(Op::BranchLtS, at),
+            Op::BranchGeU => self.branch_on_a_b(Op::BranchGeU, at),
+            Op::BranchGeS => self.branch_on_a_b(Op::BranchGeS, at),
             Op::Add32 => self.give_of_a_b(Op::Add32, at),
             Op::Sub32 => self.give_of_a_b(Op::Sub32, at),
             Op::Mul32 => self.give_of_a_b(Op::Mul32, at),
@@ -132,58 +131,56 @@ impl Machine {
             Op::MaxU => self.give_of_a_b(Op::MaxU, at),
             Op::Min => self.give_of_a_b(Op::Min, at),
             Op::MinU => self.give_of_a_b(Op::MinU, at),
-            _ => Went::Beyond,
+            _ => Attempt::Beyond,
         }
     }
 
     /// What another opcode does at the pc.
     #[inline(never)]
     #[tactic(auto, unfolding(crate::specs::Effect::outcome, crate::specs::Effect::line, crate::specs::Effect::after, crate::specs::Named::on_registers, pvm_isa::specs::Opcodes::entry, pvm_alu::specs::Alu::widen_line, pvm_alu::specs::Alu::loaded_bytes))]
-    pub(crate) fn act_beyond(&mut self, op: Op, skip: u8) -> Result<Option<Exit>, AllocError>
-        requires within { self.old.pc < length self.old.program.code }
-        requires skip { skip ≡ blob.skip self.old.program self.old.pc }
-        requires short { skip ≤ 24 }
-        requires kind { on_registers op ≡ false }
-        ensures acts { IfOk result (λ exit. after_of self.new exit ≡ outcome op self.old.program (state_of self.old)) }
-        ensures program { self.new.program ≡ self.old.program }
-        ensures gas { self.new.gas ≡ self.old.gas }
+    pub(crate) fn act_beyond(&mut self, at: At) -> Result<Option<Exit>, AllocError>
+        requires at { IsAt at self.old }
+        requires kind { on_registers at.found.op ≡ false }
+        ensures acts { IfOk result (λ exit. after_of self.new exit ≡ outcome at.found.op self.old.program (state_of self.old)) }
+        ensures rest { ChangesStateAlone self.old self.new }
         ensures err { OnErr result (self.new ≡ self.old) }
+        ensures wants { OnErr result (changes_memory (act_of at.found.op self.old.program (state_of self.old)) ≡ true) }
     {
-        match op {
-            Op::Ecalli => Ok(self.call_host(skip)),
-            Op::StoreImmU8 => self.store_y_at_x(1, skip),
-            Op::StoreImmU16 => self.store_y_at_x(2, skip),
-            Op::StoreImmU32 => self.store_y_at_x(4, skip),
-            Op::StoreImmU64 => self.store_y_at_x(8, skip),
-            Op::JumpInd => self.jump_ind(skip),
-            Op::LoadU8 => self.load_at_x(Op::LoadU8, 1, skip),
-            Op::LoadI8 => self.load_at_x(Op::LoadI8, 1, skip),
-            Op::LoadU16 => self.load_at_x(Op::LoadU16, 2, skip),
-            Op::LoadI16 => self.load_at_x(Op::LoadI16, 2, skip),
-            Op::LoadU32 => self.load_at_x(Op::LoadU32, 4, skip),
-            Op::LoadI32 => self.load_at_x(Op::LoadI32, 4, skip),
-            Op::LoadU64 => self.load_at_x(Op::LoadU64, 8, skip),
-            Op::StoreU8 => self.store_a_at_x(1, skip),
-            Op::StoreU16 => self.store_a_at_x(2, skip),
-            Op::StoreU32 => self.store_a_at_x(4, skip),
-            Op::StoreU64 => self.store_a_at_x(8, skip),
-            Op::StoreImmIndU8 => self.store_y_at_a_x(1, skip),
-            Op::StoreImmIndU16 => self.store_y_at_a_x(2, skip),
-            Op::StoreImmIndU32 => self.store_y_at_a_x(4, skip),
-            Op::StoreImmIndU64 => self.store_y_at_a_x(8, skip),
-            Op::Sbrk => self.sbrk(skip),
-            Op::StoreIndU8 => self.store_a_at_b_x(1, skip),
-            Op::StoreIndU16 => self.store_a_at_b_x(2, skip),
-            Op::StoreIndU32 => self.store_a_at_b_x(4, skip),
-            Op::StoreIndU64 => self.store_a_at_b_x(8, skip),
-            Op::LoadIndU8 => self.load_at_b_x(Op::LoadIndU8, 1, skip),
-            Op::LoadIndI8 => self.load_at_b_x(Op::LoadIndI8, 1, skip),
-            Op::LoadIndU16 => self.load_at_b_x(Op::LoadIndU16, 2, skip),
-            Op::LoadIndI16 => self.load_at_b_x(Op::LoadIndI16, 2, skip),
-            Op::LoadIndU32 => self.load_at_b_x(Op::LoadIndU32, 4, skip),
-            Op::LoadIndI32 => self.load_at_b_x(Op::LoadIndI32, 4, skip),
-            Op::LoadIndU64 => self.load_at_b_x(Op::LoadIndU64, 8, skip),
-            Op::LoadImmJumpInd => self.load_imm_jump_ind(skip),
+        match at.found.op {
+            Op::Ecalli => Ok(self.call_host(at)),
+            Op::StoreImmU8 => self.store_y_at_x(1, at),
+            Op::StoreImmU16 => self.store_y_at_x(2, at),
+            Op::StoreImmU32 => self.store_y_at_x(4, at),
+            Op::StoreImmU64 => self.store_y_at_x(8, at),
+            Op::JumpInd => self.jump_ind(at),
+            Op::LoadU8 => self.load_at_x(Op::LoadU8, 1, at),
+            Op::LoadI8 => self.load_at_x(Op::LoadI8, 1, at),
+            Op::LoadU16 => self.load_at_x(Op::LoadU16, 2, at),
+            Op::LoadI16 => self.load_at_x(Op::LoadI16, 2, at),
+            Op::LoadU32 => self.load_at_x(Op::LoadU32, 4, at),
+            Op::LoadI32 => self.load_at_x(Op::LoadI32, 4, at),
+            Op::LoadU64 => self.load_at_x(Op::LoadU64, 8, at),
+            Op::StoreU8 => self.store_a_at_x(1, at),
+            Op::StoreU16 => self.store_a_at_x(2, at),
+            Op::StoreU32 => self.store_a_at_x(4, at),
+            Op::StoreU64 => self.store_a_at_x(8, at),
+            Op::StoreImmIndU8 => self.store_y_at_a_x(1, at),
+            Op::StoreImmIndU16 => self.store_y_at_a_x(2, at),
+            Op::StoreImmIndU32 => self.store_y_at_a_x(4, at),
+            Op::StoreImmIndU64 => self.store_y_at_a_x(8, at),
+            Op::Sbrk => self.sbrk(at),
+            Op::StoreIndU8 => self.store_a_at_b_x(1, at),
+            Op::StoreIndU16 => self.store_a_at_b_x(2, at),
+            Op::StoreIndU32 => self.store_a_at_b_x(4, at),
+            Op::StoreIndU64 => self.store_a_at_b_x(8, at),
+            Op::LoadIndU8 => self.load_at_b_x(Op::LoadIndU8, 1, at),
+            Op::LoadIndI8 => self.load_at_b_x(Op::LoadIndI8, 1, at),
+            Op::LoadIndU16 => self.load_at_b_x(Op::LoadIndU16, 2, at),
+            Op::LoadIndI16 => self.load_at_b_x(Op::LoadIndI16, 2, at),
+            Op::LoadIndU32 => self.load_at_b_x(Op::LoadIndU32, 4, at),
+            Op::LoadIndI32 => self.load_at_b_x(Op::LoadIndI32, 4, at),
+            Op::LoadIndU64 => self.load_at_b_x(Op::LoadIndU64, 8, at),
+            Op::LoadImmJumpInd => self.load_imm_jump_ind(at),
             _ => unreachable!(),
         }
     }

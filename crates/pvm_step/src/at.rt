@@ -1,17 +1,11 @@
 // Where an instruction stands.
-use pvm_isa::Op;
+use blob_decode::Fetched;
 
-/// An instruction, where it stands, and what is read there at once.
+/// An instruction with its place.
 #[derive(Clone, Copy, Debug, PartialEq, Eq)]
 pub struct At {
-    /// The opcode that acts there.
-    pub op: Op,
     /// The place of the opcode.
     pub pc: u64,
-    /// The place of the next instruction.
-    pub next: u64,
-    /// How many bytes of arguments it has.
-    pub skip: u8,
-    /// The number in the eight bytes of the code from the opcode on.
-    pub bytes: u64,
+    /// What stands there.
+    pub found: Fetched,
 }

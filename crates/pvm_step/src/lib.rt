@@ -1,17 +1,19 @@
 //! A machine of the Polkadot Virtual Machine: one step, and a run.
 #![tactic(auto)]
 
+mod accesses;
 mod act;
 mod address;
 mod at;
+mod attempt;
+mod control;
+mod effects;
 mod exit;
-mod families;
+mod form;
 mod heap;
-mod kinds;
 mod laws;
 mod machine;
-mod singles;
-mod went;
+mod operations;
 
 pub use exit::{Exit, HostStep, Progress};
 pub use heap::Heap;

@@ -1,28 +1,29 @@
 // A machine that runs a program.
-ghost use Rattle.std.specs.Prelude.{◌≡◌, ◌<◌, ◌≤◌, ◌-◌, ℕ, true, false, None, length, replicate, IfOk, IfSome, IfNone, OnErr};
+ghost use Rattle.std.specs.Prelude.{◌≡◌, ◌<◌, ◌≤◌, ℕ, true, false, None, Some, length, replicate, IfOk, IfSome, IfNone, OnErr};
 ghost use Rattle.std.specs.FinMap as fin;
+ghost use Rattle.gas_ledger.specs.Schedule.{plain};
 ghost use Rattle.pvm_isa.specs.declared.op.Op.TheVariants.{Ecalli};
-ghost use Rattle.blob_decode.specs.Program as blob;
 ghost use Rattle.blob_decode.specs.Program.{op_at, next};
-ghost use Rattle.pvm_step.specs.Effect.{effect};
-ghost use Rattle.pvm_step.specs.History.{step, reached, output};
-ghost use Rattle.pvm_step.specs.Machine.{IsAt, state_of, after_of, moment, paid, exit_in, exit_after, is_done};
-ghost use Rattle.pvm_step.specs.Named.{on_registers};
-ghost use Rattle.pvm_step.specs.declared.went.Went.TheVariants.{On};
+ghost use Rattle.pvm_step.specs.Effect.{effect, act_at};
+ghost use Rattle.pvm_step.specs.History.{cost_of, step, reached, output};
+ghost use Rattle.pvm_step.specs.Machine.{IsAt, ChangesStateAlone, state_of, after_of, moment, with_gas, exit_in, exit_after, is_done};
+ghost use Rattle.pvm_step.specs.Named.{on_registers, changes_memory};
+ghost use Rattle.pvm_step.specs.declared.attempt.Attempt.TheVariants.{Next};
 
 use crate::at::At;
+use crate::attempt::Attempt;
 use crate::exit::{Exit, Progress};
+use crate::form::number_of_form;
 use crate::heap::Heap;
-use crate::went::Went;
-use blob_decode::{Fetched, Program};
-use gas_ledger::Ledger;
+use blob_decode::Program;
+use gas_ledger::{Ledger, Schedule};
 use paged_memory::Memory;
-use pvm_isa::Op;
+use pvm_isa::{Op, form_of};
 use std::alloc::{AllocError, Global};
 use std::marker::Model;
 use std::rc::Rc;
 
-/// A program with a place in it, registers, a memory, a heap, and gas.
+/// A program with a place in it, registers, a memory, a heap, gas, and what instructions cost.
 #[derive(Drop)]
 pub struct Machine {
     pub program: Rc<Program>,
@@ -31,6 +32,7 @@ pub struct Machine {
     pub memory: Memory,
     pub heap: Heap,
     pub ledger: Ledger,
+    pub costs: Schedule,
 }
 
 impl Model for Machine {
@@ -40,7 +42,7 @@ impl Model for Machine {
 
     ghost coded = { machine_code };
 
-    ghost view = { λ m. record { program = m.program.value; pc = m.pc; registers = m.registers; memory = m.memory; heap = m.heap; gas = m.ledger } };
+    ghost view = { λ m. record { program = m.program.value; pc = m.pc; registers = m.registers; memory = m.memory; heap = m.heap; gas = m.ledger; costs = m.costs } };
 }
 
 fn zeros(alloc: Global, count: u64) -> Result<Vec<u8>, AllocError>
@@ -50,9 +52,10 @@ fn zeros(alloc: Global, count: u64) -> Result<Vec<u8>, AllocError>
 }
 
 impl Machine {
-    /// A machine at a place, with registers 0, a memory without rights, and no heap.
+    /// A machine at a place, with registers 0, a memory without rights, no heap, and the plain
+    /// schedule.
     pub fn raw(alloc: Global, program: Rc<Program>, pc: u64, gas: u64) -> Machine
-        ensures { result ≡ record { program = program.value; pc = pc; registers = replicate 13 0; memory = fin.empty; heap = record { next = 0; end = 0 }; gas = gas } }
+        ensures { result ≡ record { program = program.value; pc = pc; registers = replicate 13 0; memory = fin.empty; heap = record { next = 0; end = 0 }; gas = gas; costs = plain } }
     {
         Machine {
             program,
@@ -61,7 +64,15 @@ impl Machine {
             memory: Memory::new(alloc),
             heap: Heap::new(0, 0),
             ledger: Ledger::new(gas),
+            costs: Schedule::plain(),
         }
+    }
+
+    /// Sets what instructions cost.
+    pub fn set_costs(&mut self, costs: Schedule)
+        ensures { self.new ≡ record self.old { costs = costs } }
+    {
+        self.costs = costs;
     }
 
     // The instruction at the pc; none past the code.
@@ -69,24 +80,11 @@ impl Machine {
     fn look(&self, pc: u64) -> Option<At>
         requires { pc ≡ self.now.pc }
         ensures past { IfNone result (length self.now.program.code ≤ self.now.pc) }
-        ensures op { IfSome result (λ at. at.op ≡ op_at self.now.program self.now.pc) }
+        ensures op { IfSome result (λ at. at.found.op ≡ op_at self.now.program self.now.pc) }
         ensures at { IfSome result (λ at. IsAt at self.now) }
     {
         match self.program.fetch(pc) {
-            Some(
-                Fetched {
-                    op,
-                    skip,
-                    next,
-                    bytes,
-                },
-            ) => Some(At {
-                op,
-                pc,
-                next,
-                skip,
-                bytes,
-            }),
+            Some(found) => Some(At { pc, found }),
             None => None,
         }
     }
@@ -94,15 +92,14 @@ impl Machine {
     // The instruction, where it works on the registers alone. Else nothing.
     #[inline(always)]
     #[tactic(auto, unfolding(crate::specs::Effect::effect))]
-    fn attempt(&mut self, at: At) -> Went
-        requires op { at.op ≡ op_at self.old.program self.old.pc }
+    fn attempt(&mut self, at: At) -> Attempt
+        requires op { at.found.op ≡ op_at self.old.program self.old.pc }
         requires at { IsAt at self.old }
         ensures made { is_done result ≡ true → after_of self.new (exit_after result) ≡ effect self.old.program (state_of self.old) }
-        ensures next { result ≡ On → self.new.pc ≡ at.next }
-        ensures same { result ≡ Went.Beyond → self.new ≡ self.old }
-        ensures kind { result ≡ Went.Beyond → on_registers at.op ≡ false }
-        ensures program { self.new.program ≡ self.old.program }
-        ensures gas { self.new.gas ≡ self.old.gas }
+        ensures next { result ≡ Next → self.new.pc ≡ at.found.next }
+        ensures same { result ≡ Attempt.Beyond → self.new ≡ self.old }
+        ensures kind { result ≡ Attempt.Beyond → on_registers at.found.op ≡ false }
+        ensures rest { ChangesStateAlone self.old self.new }
     {
         self.act_on_registers(at)
     }
@@ -110,114 +107,143 @@ impl Machine {
     // Another instruction.
     #[inline(always)]
     #[tactic(auto, unfolding(crate::specs::Effect::effect))]
-    fn go_beyond(&mut self, op: Op, skip: u8) -> Result<Option<Exit>, AllocError>
-        requires op { op ≡ op_at self.old.program self.old.pc }
-        requires kind { on_registers op ≡ false }
-        requires within { self.old.pc < length self.old.program.code }
-        requires skip { skip ≡ blob.skip self.old.program self.old.pc }
-        requires short { skip ≤ 24 }
+    fn go_beyond(&mut self, at: At) -> Result<Option<Exit>, AllocError>
+        requires op { at.found.op ≡ op_at self.old.program self.old.pc }
+        requires kind { on_registers at.found.op ≡ false }
+        requires at { IsAt at self.old }
         ensures effect { IfOk result (λ exit. after_of self.new exit ≡ effect self.old.program (state_of self.old)) }
-        ensures program { self.new.program ≡ self.old.program }
-        ensures gas { self.new.gas ≡ self.old.gas }
+        ensures rest { ChangesStateAlone self.old self.new }
         ensures err { OnErr result (self.new ≡ self.old) }
+        ensures wants { OnErr result (changes_memory (act_at self.old.program (state_of self.old)) ≡ true) }
     {
-        self.act_beyond(op, skip)
+        self.act_beyond(at)
     }
 
-    // What the instruction at the pc does; past the code it panics.
-    #[tactic(auto, unfolding(crate::specs::Effect::effect))]
-    fn take_effect(&mut self) -> Result<Option<Exit>, AllocError>
-        ensures effect { IfOk result (λ exit. after_of self.new exit ≡ effect self.old.program (state_of self.old)) }
-        ensures program { self.new.program ≡ self.old.program }
-        ensures gas { self.new.gas ≡ self.old.gas }
-        ensures err { OnErr result (self.new ≡ self.old) }
+    // What an instruction of an opcode costs.
+    #[inline(always)]
+    #[tactic(auto, unfolding(crate::specs::History::cost_of))]
+    fn cost<const PLAIN: bool>(&self, op: Op) -> u64
+        requires { PLAIN ≡ true → self.now.costs.forms ≡ plain.forms }
+        ensures { result ≡ cost_of self.now.costs op }
     {
-        let Some(at) = self.look(self.pc) else {
-            return Ok(Some(Exit::Panic));
-        };
-        match self.attempt(at) {
-            Went::On | Went::Jumped => Ok(None),
-            Went::Panics => Ok(Some(Exit::Panic)),
-            Went::Beyond => self.go_beyond(at.op, at.skip),
+        if PLAIN {
+            1
+        } else {
+            self.costs.form_cost(number_of_form(form_of(op)))
         }
     }
 
-    /// One instruction, which costs 1 gas; without gas, the exit `OutOfGas`.
-    ///
-    /// # Errors
-    /// Want of memory; the machine is then as before.
-    pub fn step(&mut self) -> Result<Option<Exit>, AllocError>
-        ensures step { IfOk result (λ exit. moment self.new exit ≡ step self.old.program self.old.gas (state_of self.old)) }
-        ensures program { self.new.program ≡ self.old.program }
-        ensures err { OnErr result (self.new ≡ self.old) }
+    // What is left of the gas at a place past the code, and the exit there.
+    #[cold]
+    #[inline(never)]
+    fn trap_past_code<const PLAIN: bool>(&self, left: u64) -> (u64, Exit)
+        requires past { length self.now.program.code ≤ self.now.pc }
+        requires plain { PLAIN ≡ true → self.now.costs.forms ≡ plain.forms }
+        ensures step { with_gas self.now result.0 (Some result.1) ≡ step self.now.program (with_gas self.now left None) }
+        ensures gas { result.0 ≤ left }
     {
-        if self.ledger.left() == 0 {
-            return Ok(Some(Exit::OutOfGas));
+        let cost = self.cost::<PLAIN>(Op::Trap);
+        if left < cost {
+            return (0, Exit::OutOfGas);
         }
-        let exit = self.take_effect()?;
-        let _paid = self.ledger.charge(1);
-        Ok(exit)
+        (left - cost, Exit::Panic)
     }
 
-    // Makes so many instructions, or fewer where the run ends before, and takes no gas for them. It answers how many it
-    // made, and the exit of the last, if it ended the run.
-    fn go(&mut self, most: u64) -> (u64, Result<Option<Exit>, AllocError>)
-        requires { most ≤ self.old.gas }
-        ensures reached { IfOk result.1 (λ exit. paid self.new result.0 exit ≡ reached most self.old.program self.old.gas (state_of self.old)) }
-        ensures err { OnErr result.1 (paid self.new result.0 None ≡ reached result.0 self.old.program self.old.gas (state_of self.old)) }
-        ensures made { result.0 ≤ most }
-        ensures all { IfOk result.1 (λ exit. exit ≡ None → result.0 ≡ most) }
-        ensures program { self.new.program ≡ self.old.program }
-        ensures gas { self.new.gas ≡ self.old.gas }
+    // Makes so many instructions, or fewer where the run ends before, and takes no gas for them. It answers how much
+    // gas they leave, and the exit of the last, if it ended the run. A schedule in which each form costs 1 is not asked.
+    fn go<const PLAIN: bool>(&mut self, fuel: u64) -> (u64, Result<Option<Exit>, AllocError>)
+        requires { PLAIN ≡ true → self.old.costs.forms ≡ plain.forms }
+        ensures reached { IfOk result.1 (λ exit. with_gas self.new result.0 exit ≡ reached fuel self.old.program (moment self.old None)) }
+        ensures err { OnErr result.1 ((n : ℕ) × (n < fuel) × (with_gas self.new result.0 None ≡ reached n self.old.program (moment self.old None))) }
+        ensures wants { OnErr result.1 (changes_memory (act_at self.new.program (state_of self.new)) ≡ true) }
+        ensures gas { result.0 ≤ self.old.gas }
+        ensures rest { ChangesStateAlone self.old self.new }
     {
+        let mut left = self.ledger.left();
         // The pc is kept here too, so that the next instruction need not wait for the store of it.
         let mut pc = self.pc;
-        'steps: for made in 0..most {
+        'steps: for made in 0..fuel {
             let Some(at) = self.look(pc) else {
-                return (made + 1, Ok(Some(Exit::Panic)));
+                let (left, exit) = self.trap_past_code::<PLAIN>(left);
+                return (left, Ok(Some(exit)));
             };
+            let cost = self.cost::<PLAIN>(at.found.op);
+            if left < cost {
+                return (0, Ok(Some(Exit::OutOfGas)));
+            }
             match self.attempt(at) {
-                Went::On => pc = at.next,
-                Went::Jumped => pc = self.pc,
-                Went::Panics => return (made + 1, Ok(Some(Exit::Panic))),
-                Went::Beyond => match self.go_beyond(at.op, at.skip) {
+                Attempt::Next => pc = at.found.next,
+                Attempt::Jumped => pc = self.pc,
+                Attempt::Panics => return (left - cost, Ok(Some(Exit::Panic))),
+                Attempt::Beyond => match self.go_beyond(at) {
                     Ok(None) => pc = self.pc,
-                    Ok(Some(exit)) => return (made + 1, Ok(Some(exit))),
-                    Err(error) => return (made, Err(error)),
+                    Ok(Some(exit)) => return (left - cost, Ok(Some(exit))),
+                    Err(error) => return (left, Err(error)),
                 },
             }
+            left -= cost;
         }
-        (most, Ok(None))
+        (left, Ok(None))
     }
 
-    // Takes the gas of so many instructions.
-    fn pay(&mut self, made: u64)
-        requires { made ≤ self.old.gas }
-        ensures { self.new ≡ record self.old { gas = self.old.gas - made } }
+    // The same, by the schedule that the machine has.
+    fn go_on_schedule(&mut self, fuel: u64) -> (u64, Result<Option<Exit>, AllocError>)
+        ensures reached { IfOk result.1 (λ exit. with_gas self.new result.0 exit ≡ reached fuel self.old.program (moment self.old None)) }
+        ensures err { OnErr result.1 ((n : ℕ) × (n < fuel) × (with_gas self.new result.0 None ≡ reached n self.old.program (moment self.old None))) }
+        ensures wants { OnErr result.1 (changes_memory (act_at self.new.program (state_of self.new)) ≡ true) }
+        ensures gas { result.0 ≤ self.old.gas }
+        ensures rest { ChangesStateAlone self.old self.new }
     {
-        let _paid = self.ledger.charge(made);
+        if self.costs.has_plain_forms() {
+            self.go::<true>(fuel)
+        } else {
+            self.go::<false>(fuel)
+        }
+    }
+
+    // Takes gas, so that so much is left.
+    fn pay(&mut self, left: u64)
+        requires { left ≤ self.old.gas }
+        ensures { self.new ≡ record self.old { gas = left } }
+    {
+        let gas = self.ledger.left();
+        let _paid = self.ledger.charge(gas - left);
+    }
+
+    /// One instruction, which costs what the schedule has for its form; with less gas, the exit
+    /// `OutOfGas`, and no gas is left.
+    ///
+    /// # Errors
+    /// Want of memory, only where the instruction changes memory; the machine is then as before.
+    pub fn step(&mut self) -> Result<Option<Exit>, AllocError>
+        ensures step { IfOk result (λ exit. moment self.new exit ≡ step self.old.program (moment self.old None)) }
+        ensures program { self.new.program ≡ self.old.program }
+        ensures err { OnErr result (self.new ≡ self.old) }
+        ensures wants { OnErr result (changes_memory (act_at self.old.program (state_of self.old)) ≡ true) }
+    {
+        let (left, exit) = self.go_on_schedule(1);
+        self.pay(left);
+        exit
     }
 
     /// Makes so many instructions, or fewer where the run ends before. It pauses exactly where all
     /// were made and none ended it.
     ///
     /// # Errors
-    /// Want of memory; the machine then stands after the instructions made before.
+    /// Want of memory, only where the instruction at hand changes memory; the machine then stands
+    /// after the instructions made before, and they are paid.
     pub fn run(&mut self, fuel: u64) -> Result<Progress, AllocError>
-        ensures reached { IfOk result (λ progress. moment self.new (exit_in progress) ≡ reached fuel self.old.program self.old.gas (state_of self.old)) }
+        ensures reached { IfOk result (λ progress. moment self.new (exit_in progress) ≡ reached fuel self.old.program (moment self.old None)) }
         ensures program { self.new.program ≡ self.old.program }
-        ensures err { OnErr result ((n : ℕ) × (n ≤ fuel) × (moment self.new None ≡ reached n self.old.program self.old.gas (state_of self.old))) }
+        ensures err { OnErr result ((n : ℕ) × (n < fuel) × (moment self.new None ≡ reached n self.old.program (moment self.old None))) }
+        ensures wants { OnErr result (changes_memory (act_at self.new.program (state_of self.new)) ≡ true) }
     {
-        let most = fuel.min(self.ledger.left());
-        let (made, exit) = self.go(most);
-        self.pay(made);
-        if let Some(exit) = exit? {
-            return Ok(Progress::Ended(exit));
+        let (left, exit) = self.go_on_schedule(fuel);
+        self.pay(left);
+        match exit? {
+            Some(exit) => Ok(Progress::Ended(exit)),
+            None => Ok(Progress::Paused),
         }
-        if most < fuel {
-            return Ok(Progress::Ended(Exit::OutOfGas));
-        }
-        Ok(Progress::Paused)
     }
 
     /// Goes to the instruction after a host call.
@@ -228,7 +254,7 @@ impl Machine {
         // The code is shorter than 2^63.
         let _code = self.program.code();
         let skip = self.program.skip(self.pc);
-        let next = self.next(skip);
+        let next = self.pc + 1 + u64::from(skip);
         self.go_on(next);
     }
 

@@ -1,4 +1,5 @@
 use Rattle.pvm_step.proofs.Named.{leaves-registers, leaves-memory, leaves-bytes}
+use Rattle.pvm_step.proofs.Grown.{lifts, spares}
 use Rattle.pvm_step.proofs.laws.effect_laws.Goals as goal
 
 pub returns-clause-registers : goal.returns-clause-registers
@@ -9,3 +10,9 @@ returns-clause-memory c = leaves-memory
 
 pub returns-clause-bytes : goal.returns-clause-bytes
 returns-clause-bytes c = leaves-bytes
+
+pub returns-clause-lifts : goal.returns-clause-lifts
+returns-clause-lifts c = lifts
+
+pub returns-clause-spares : goal.returns-clause-spares
+returns-clause-spares c = spares

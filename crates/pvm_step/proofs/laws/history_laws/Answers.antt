@@ -1,5 +1,5 @@
-use Rattle.pvm_step.proofs.Histories.{history-is, one_history, history-short, never_rises}
-use Rattle.pvm_step.proofs.Gas.{history-gain, answer-gain}
+use Rattle.pvm_step.proofs.Histories.{history-is, one_history, history-short, never_rises, nth_is, last_is, gas_paid}
+use Rattle.pvm_step.proofs.Reached.{reached-gain, answer-gain}
 use Rattle.pvm_step.proofs.laws.history_laws.Goals as goal
 
 pub returns-clause-is_history : goal.returns-clause-is_history
@@ -15,7 +15,16 @@ pub returns-clause-gas : goal.returns-clause-gas
 returns-clause-gas c = never_rises
 
 pub returns-clause-more_gas : goal.returns-clause-more_gas
-returns-clause-more_gas c = history-gain
+returns-clause-more_gas c p m more n not = reached-gain n p m more not
 
 pub returns-clause-gas_used : goal.returns-clause-gas_used
 returns-clause-gas_used c = answer-gain
+
+pub returns-clause-states : goal.returns-clause-states
+returns-clause-states c p m d ms n h less = nth_is n p m d ms h less
+
+pub returns-clause-last : goal.returns-clause-last
+returns-clause-last c = last_is
+
+pub returns-clause-paid : goal.returns-clause-paid
+returns-clause-paid c p m ms h not = gas_paid p m m ms h not

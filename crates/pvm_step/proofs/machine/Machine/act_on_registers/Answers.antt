@@ -4,7 +4,7 @@ use Rattle.pvm_isa.specs.declared.op.Op.{Op}
 use Rattle.pvm_step.specs.Effect.{outcome}
 use Rattle.pvm_step.specs.Machine.{state_of}
 use Rattle.pvm_step.specs.Named.{on_registers}
-use Rattle.pvm_step.proofs.Effects.{trap_panics}
+use Rattle.pvm_step.proofs.Acting.{trap_panics}
 use Rattle.pvm_step.proofs.machine.Machine.act_on_registers.Goals as goal
 
 pub returns-in-Trap-clause-acts : goal.returns-in-Trap-clause-acts

@@ -1,88 +1,81 @@
-use Rattle.std.proofs.Common.{◌≡◌, ◌+◌, ◌-◌, ℕ, arith, sym, ◌∙◌, ap, Some, None, refl}
-use Rattle.blob_decode.specs.Program.{Program}
+use Rattle.std.proofs.Common.{◌≡◌, ◌-◌, ◌≤◌, arith, sym, ◌∙◌, ap, subst, Some, None, refl}
+use Rattle.blob_decode.specs.Program.{Program, op_at}
+use Rattle.pvm_isa.specs.declared.op.Op.{Op}
 use Rattle.pvm_step.specs.Effect.{effect}
-use Rattle.pvm_step.specs.Machine.{Machine, state_of, after_of, paid}
-use Rattle.pvm_step.specs.History.{step}
+use Rattle.pvm_step.specs.Machine.{Machine, ChangesStateAlone, state_of, after_of, moment, with_gas}
+use Rattle.pvm_step.specs.History.{cost_of, step}
 use Rattle.pvm_step.specs.declared.exit.Exit.TheVariants.{Panic}
-use Rattle.pvm_step.proofs.Effects.{effect-past, step-acts}
-use Rattle.pvm_step.proofs.Reached.{reached-none, made-more, made-last}
-use Rattle.pvm_step.proofs.machine.Machine.go.Goals.{in-On, in-Jumped, in-Beyond+in-Ok-None}
+use Rattle.pvm_step.proofs.Reached.{reached-none, made-last}
+use Rattle.pvm_step.proofs.Turns.{through, none_changed, turn-more, turn-last, turn-short}
+use Rattle.pvm_step.proofs.machine.Machine.go.Goals.{in-Next, in-Jumped, in-Beyond+in-Ok-None}
 use Rattle.pvm_step.proofs.machine.Machine.go.Goals as goal
 
 pub steps-init : goal.steps-init
-steps-init c = record {
-  program = refl;
-  gas = refl;
-  place = ap (λ (m : Machine). m.pc) c.self.view_is;
-  here = let whole : c.args.self.now.gas - 0 ≡ c.args.self.now.gas = omega arith in
-      ap (λ (gas : ℕ). record { state = state_of c.args.self.now; gas = gas; exit = None }) whole
-      ∙ sym (reached-none c.args.self.now.program c.args.self.now.gas (state_of c.args.self.now));
-}
+steps-init g c =
+    let all : c.left-left.result ≡ c.args.self.now.gas = c.left-left.ensures ∙ ap (λ (m : Machine). m.gas) c.self.view_is in
+    record {
+      rest = none_changed c.args.self.now;
+      place = ap (λ (m : Machine). m.pc) c.self.view_is;
+      gas = omega (arith, all);
+      here = ap (λ gas. with_gas c.args.self.now gas None) all ∙ sym (reached-none c.args.self.now.program (moment c.args.self.now None));
+    }
 
 pub returns-in_default-clause-reached : goal.returns-in_default-clause-reached
-returns-in_default-clause-reached c =
-    made-last c.args.self.now.program c.args.self.now.gas (state_of c.args.self.now) c.steps.made c.args.most (paid c.steps.self c.steps.made None) (paid c.steps.self (c.steps.made + 1) (Some Panic)) Panic
-    c.steps-test.true refl c.steps.invariant.here refl
-    (step-acts c.steps.self.program (c.steps.self.gas - c.steps.made) (c.steps.self.gas - (c.steps.made + 1)) (state_of c.steps.self) (state_of c.steps.self) (Some Panic)
-    (omega (arith, c.steps.invariant.gas, c.steps-test.true, c.requires))
-    (sym (effect-past c.steps.self.program (state_of c.steps.self) c.in_default.ensures.past))
-    ∙ ap (λ (p : Program). step p (c.steps.self.gas - c.steps.made) (state_of c.steps.self)) c.steps.invariant.program)
+returns-in_default-clause-reached g c =
+    made-last c.args.self.now.program (moment c.args.self.now None) c.steps.made c.args.fuel (with_gas c.steps.self c.steps.left None)
+    (with_gas c.steps.self c.trap_past_code-left.result.0 (Some c.trap_past_code-left.result.1)) c.trap_past_code-left.result.1 c.steps-test.true refl c.steps.invariant.here refl
+    (c.trap_past_code-left.ensures.step ∙ ap (λ (p : Program). step p (with_gas c.steps.self c.steps.left None)) c.steps.invariant.rest.program)
+
+pub returns-then-left-cost-clause-reached : goal.returns-then-left-cost-clause-reached
+returns-then-left-cost-clause-reached g c =
+    turn-short c.args.self.now.program (moment c.args.self.now None) c.steps.made c.steps.self c.steps.left c.cost-cost.result c.steps.invariant.rest.program c.steps.invariant.here
+    (c.cost-cost.ensures ∙ ap (λ (op : Op). cost_of c.steps.self.costs op) c.in-Some.ensures.op) c.args.fuel c.steps-test.true c.if-left-cost.true
 
 pub returns-in-Panics-clause-reached : goal.returns-in-Panics-clause-reached
-returns-in-Panics-clause-reached c =
-    made-last c.args.self.now.program c.args.self.now.gas (state_of c.args.self.now) c.steps.made c.args.most (paid c.steps.self c.steps.made None) (paid c.attempt.new.self (c.steps.made + 1) (Some Panic)) Panic
-    c.steps-test.true refl c.steps.invariant.here refl
-    (step-acts c.steps.self.program (c.steps.self.gas - c.steps.made) (c.attempt.new.self.gas - (c.steps.made + 1)) (state_of c.steps.self) (state_of c.attempt.new.self) (Some Panic)
-    (omega (arith, c.steps.invariant.gas, c.attempt.ensures.gas, c.steps-test.true, c.requires))
-    (c.in-Panics.ensures.made refl)
-    ∙ ap (λ (p : Program). step p (c.steps.self.gas - c.steps.made) (state_of c.steps.self)) c.steps.invariant.program)
+returns-in-Panics-clause-reached g c =
+    turn-last c.args.self.now.program (moment c.args.self.now None) c.steps.made c.steps.self c.steps.left c.cost-cost.result c.steps.invariant.rest.program c.steps.invariant.here
+    (c.cost-cost.ensures ∙ ap (λ (op : Op). cost_of c.steps.self.costs op) c.in-Some.ensures.op)
+    c.attempt.new.self c.args.fuel Panic c.steps-test.true c.attempt.ensures.rest (omega (arith, c.if-left-cost.false)) (c.in-Panics.ensures.made refl)
 
 pub returns-in-Ok-Some-clause-reached : goal.returns-in-Ok-Some-clause-reached
-returns-in-Ok-Some-clause-reached c =
+returns-in-Ok-Some-clause-reached g c =
     let before : c.attempt.new.self ≡ c.steps.self = c.in-Beyond.ensures.same refl in
-    made-last c.args.self.now.program c.args.self.now.gas (state_of c.args.self.now) c.steps.made c.args.most (paid c.steps.self c.steps.made None) (paid c.go_beyond.new.self (c.steps.made + 1) (Some c.in-Ok-Some.exit)) c.in-Ok-Some.exit
-    c.steps-test.true refl c.steps.invariant.here refl
-    (step-acts c.steps.self.program (c.steps.self.gas - c.steps.made) (c.go_beyond.new.self.gas - (c.steps.made + 1)) (state_of c.steps.self) (state_of c.go_beyond.new.self) (Some c.in-Ok-Some.exit)
-    (omega (arith, c.steps.invariant.gas, c.attempt.ensures.gas, c.go_beyond.ensures.gas, c.steps-test.true, c.requires))
+    turn-last c.args.self.now.program (moment c.args.self.now None) c.steps.made c.steps.self c.steps.left c.cost-cost.result c.steps.invariant.rest.program c.steps.invariant.here
+    (c.cost-cost.ensures ∙ ap (λ (op : Op). cost_of c.steps.self.costs op) c.in-Some.ensures.op)
+    c.go_beyond.new.self c.args.fuel c.in-Ok-Some.exit c.steps-test.true (through c.attempt.ensures.rest c.go_beyond.ensures.rest) (omega (arith, c.if-left-cost.false))
     (ap (after_of c.go_beyond.new.self) (sym c.in-Ok-Some.field-0-is) ∙ c.in-Ok-Some.ensures.effect ∙ ap (λ (m : Machine). effect m.program (state_of m)) before)
-    ∙ ap (λ (p : Program). step p (c.steps.self.gas - c.steps.made) (state_of c.steps.self)) c.steps.invariant.program)
 
 pub steps-preserved : goal.steps-preserved
-steps-preserved c = elim c.match-attempt.branch [
-  | in-On w ↦ record {
-    program = ap (λ (m : Machine). m.program) w.self-is ∙ c.attempt.ensures.program ∙ c.steps.invariant.program;
-    gas = ap (λ (m : Machine). m.gas) w.self-is ∙ c.attempt.ensures.gas ∙ c.steps.invariant.gas;
-    place = w.pc-is ∙ sym (w.in-On.ensures.next refl) ∙ sym (ap (λ (m : Machine). m.pc) w.self-is);
-    here = ap (λ (m : Machine). paid m (c.steps.made + 1) None) w.self-is
-        ∙ made-more c.args.self.now.program c.args.self.now.gas (state_of c.args.self.now) c.steps.made (paid c.steps.self c.steps.made None) (paid c.attempt.new.self (c.steps.made + 1) None)
-        refl c.steps.invariant.here refl
-        (step-acts c.steps.self.program (c.steps.self.gas - c.steps.made) (c.attempt.new.self.gas - (c.steps.made + 1)) (state_of c.steps.self) (state_of c.attempt.new.self) None
-        (omega (arith, c.steps.invariant.gas, c.attempt.ensures.gas, c.steps-test.true, c.requires))
-        (w.in-On.ensures.made refl)
-        ∙ ap (λ (p : Program). step p (c.steps.self.gas - c.steps.made) (state_of c.steps.self)) c.steps.invariant.program);
-  }
-  | in-Jumped w ↦ record {
-    program = ap (λ (m : Machine). m.program) w.self-is ∙ c.attempt.ensures.program ∙ c.steps.invariant.program;
-    gas = ap (λ (m : Machine). m.gas) w.self-is ∙ c.attempt.ensures.gas ∙ c.steps.invariant.gas;
-    place = w.pc-is ∙ ap (λ (m : Machine). m.pc) w.self-in-Jumped.view_is ∙ sym (ap (λ (m : Machine). m.pc) w.self-is);
-    here = ap (λ (m : Machine). paid m (c.steps.made + 1) None) w.self-is
-        ∙ made-more c.args.self.now.program c.args.self.now.gas (state_of c.args.self.now) c.steps.made (paid c.steps.self c.steps.made None) (paid c.attempt.new.self (c.steps.made + 1) None)
-        refl c.steps.invariant.here refl
-        (step-acts c.steps.self.program (c.steps.self.gas - c.steps.made) (c.attempt.new.self.gas - (c.steps.made + 1)) (state_of c.steps.self) (state_of c.attempt.new.self) None
-        (omega (arith, c.steps.invariant.gas, c.attempt.ensures.gas, c.steps-test.true, c.requires))
-        (w.in-Jumped.ensures.made refl)
-        ∙ ap (λ (p : Program). step p (c.steps.self.gas - c.steps.made) (state_of c.steps.self)) c.steps.invariant.program);
-  }
-  | in-Beyond+in-Ok-None w ↦ record {
-    program = ap (λ (m : Machine). m.program) w.self-is ∙ w.go_beyond.ensures.program ∙ c.attempt.ensures.program ∙ c.steps.invariant.program;
-    gas = ap (λ (m : Machine). m.gas) w.self-is ∙ w.go_beyond.ensures.gas ∙ c.attempt.ensures.gas ∙ c.steps.invariant.gas;
-    place = w.pc-is ∙ ap (λ (m : Machine). m.pc) w.self-in-Beyond.view_is ∙ sym (ap (λ (m : Machine). m.pc) w.self-is);
-    here = ap (λ (m : Machine). paid m (c.steps.made + 1) None) w.self-is
-        ∙ made-more c.args.self.now.program c.args.self.now.gas (state_of c.args.self.now) c.steps.made (paid c.steps.self c.steps.made None) (paid w.go_beyond.new.self (c.steps.made + 1) None)
-        refl c.steps.invariant.here refl
-        (step-acts c.steps.self.program (c.steps.self.gas - c.steps.made) (w.go_beyond.new.self.gas - (c.steps.made + 1)) (state_of c.steps.self) (state_of w.go_beyond.new.self) None
-        (omega (arith, c.steps.invariant.gas, c.attempt.ensures.gas, w.go_beyond.ensures.gas, c.steps-test.true, c.requires))
-        (ap (after_of w.go_beyond.new.self) (sym w.in-Ok-None.field-0-is) ∙ w.in-Ok-None.ensures.effect ∙ ap (λ (m : Machine). effect m.program (state_of m)) (w.in-Beyond.ensures.same refl))
-        ∙ ap (λ (p : Program). step p (c.steps.self.gas - c.steps.made) (state_of c.steps.self)) c.steps.invariant.program);
-  }
-]
+steps-preserved g c =
+    let enough : c.cost-cost.result ≤ c.steps.left = omega (arith, c.if-left-cost.false) in
+    let costs : c.cost-cost.result ≡ cost_of c.steps.self.costs (op_at c.steps.self.program c.steps.self.pc) =
+    c.cost-cost.ensures ∙ ap (λ (op : Op). cost_of c.steps.self.costs op) c.in-Some.ensures.op in
+    elim c.match-attempt.branch [
+      | in-Next w ↦ record {
+        rest = subst (ChangesStateAlone c.args.self.now) (sym w.self-is) (through c.steps.invariant.rest c.attempt.ensures.rest);
+        place = w.pc-is ∙ sym (w.in-Next.ensures.next refl) ∙ sym (ap (λ (m : Machine). m.pc) w.self-is);
+        gas = omega (arith, c.steps.invariant.gas);
+        here = ap (λ (m : Machine). with_gas m (c.steps.left - c.cost-cost.result) None) w.self-is
+            ∙ turn-more c.args.self.now.program (moment c.args.self.now None) c.steps.made c.steps.self c.steps.left c.cost-cost.result c.steps.invariant.rest.program c.steps.invariant.here costs
+            c.attempt.new.self c.attempt.ensures.rest enough
+            (w.in-Next.ensures.made refl);
+      }
+      | in-Jumped w ↦ record {
+        rest = subst (ChangesStateAlone c.args.self.now) (sym w.self-is) (through c.steps.invariant.rest c.attempt.ensures.rest);
+        place = w.pc-is ∙ ap (λ (m : Machine). m.pc) w.self-in-Jumped.view_is ∙ sym (ap (λ (m : Machine). m.pc) w.self-is);
+        gas = omega (arith, c.steps.invariant.gas);
+        here = ap (λ (m : Machine). with_gas m (c.steps.left - c.cost-cost.result) None) w.self-is
+            ∙ turn-more c.args.self.now.program (moment c.args.self.now None) c.steps.made c.steps.self c.steps.left c.cost-cost.result c.steps.invariant.rest.program c.steps.invariant.here costs
+            c.attempt.new.self c.attempt.ensures.rest enough
+            (w.in-Jumped.ensures.made refl);
+      }
+      | in-Beyond+in-Ok-None w ↦ record {
+        rest = subst (ChangesStateAlone c.args.self.now) (sym w.self-is) (through c.steps.invariant.rest (through c.attempt.ensures.rest w.go_beyond.ensures.rest));
+        place = w.pc-is ∙ ap (λ (m : Machine). m.pc) w.self-in-Beyond.view_is ∙ sym (ap (λ (m : Machine). m.pc) w.self-is);
+        gas = omega (arith, c.steps.invariant.gas);
+        here = ap (λ (m : Machine). with_gas m (c.steps.left - c.cost-cost.result) None) w.self-is
+            ∙ turn-more c.args.self.now.program (moment c.args.self.now None) c.steps.made c.steps.self c.steps.left c.cost-cost.result c.steps.invariant.rest.program c.steps.invariant.here costs
+            w.go_beyond.new.self (through c.attempt.ensures.rest w.go_beyond.ensures.rest) enough
+            (ap (after_of w.go_beyond.new.self) (sym w.in-Ok-None.field-0-is) ∙ w.in-Ok-None.ensures.effect ∙ ap (λ (m : Machine). effect m.program (state_of m)) (w.in-Beyond.ensures.same refl));
+      }
+    ]

@@ -5,7 +5,7 @@ use Rattle.pvm_step.specs.Machine.{Machine, state_of, after_of}
 use Rattle.pvm_step.specs.contracts.machine.Machine.{the_view}
 use Rattle.pvm_step.specs.declared.exit.Exit.{Exit}
 use Rattle.pvm_step.specs.Effect.{after, Stores, goes, stops}
-use Rattle.pvm_step.proofs.Effects.{stored-at, refused-at, allowed, forbidden}
+use Rattle.pvm_step.proofs.Acting.{stored-at, refused-at, allowed, forbidden}
 use Rattle.pvm_step.proofs.machine.Machine.store.Goals as goal
 
 pub returns-in-Ok-clause-acts : goal.returns-in-Ok-clause-acts

@@ -1,0 +1,131 @@
+// Instructions that load, store, and grow the heap.
+ghost use Rattle.std.specs.Prelude.{◌≡◌, IsTrue, IfOk, IsOk, OnErr};
+ghost use Rattle.pvm_isa.specs.Arguments.{arguments};
+ghost use Rattle.pvm_isa.specs.declared.form.Form.TheVariants.{F4, F6, F7, F9, F10};
+ghost use Rattle.paged_memory.specs.PageMap.{is_width};
+ghost use Rattle.pvm_alu.specs.Alu as alu;
+ghost use Rattle.pvm_step.specs.Effect.{Grows, loads_at_x, loads_at_b_x, stores_y_at_x, stores_a_at_x, stores_y_at_a_x, stores_a_at_b_x, value_in, after};
+ghost use Rattle.pvm_step.specs.Machine.{IsAt, ChangesStateAlone, state_of, after_of};
+
+use crate::address::{address, address_from};
+use crate::at::At;
+use crate::exit::Exit;
+use crate::machine::Machine;
+use pvm_isa::{
+    Op, register_and_immediate, register_and_two_immediates, two_immediates, two_registers,
+    two_registers_and_immediate,
+};
+use std::alloc::AllocError;
+
+impl Machine {
+    /// A load at an immediate address.
+    #[inline(never)]
+    pub(crate) fn load_at_x(
+        &mut self,
+        op: Op,
+        width: u8,
+        at: At,
+    ) -> Result<Option<Exit>, AllocError>
+        requires loads { IsTrue (alu.is_load op) }
+        requires width { alu.loaded_bytes op ≡ width }
+        requires size { IsTrue (is_width width) }
+        requires at { IsAt at self.old }
+        ensures acts { IfOk result (λ exit. after_of self.new exit ≡ after self.old.program (state_of self.old) (loads_at_x op (arguments F6 self.old.program.code self.old.pc at.found.skip) (state_of self.old))) }
+        ensures made { IsOk result }
+        ensures rest { ChangesStateAlone self.old self.new }
+    {
+        let args = register_and_immediate(self.program.code(), at.pc, at.found.skip);
+        Ok(self.load(args.a, op, width, address(args.x), at.found.next))
+    }
+
+    /// A load at an address in a register, with an offset.
+    #[inline(never)]
+    pub(crate) fn load_at_b_x(
+        &mut self,
+        op: Op,
+        width: u8,
+        at: At,
+    ) -> Result<Option<Exit>, AllocError>
+        requires loads { IsTrue (alu.is_load op) }
+        requires width { alu.loaded_bytes op ≡ width }
+        requires size { IsTrue (is_width width) }
+        requires at { IsAt at self.old }
+        ensures acts { IfOk result (λ exit. after_of self.new exit ≡ after self.old.program (state_of self.old) (loads_at_b_x op (arguments F10 self.old.program.code self.old.pc at.found.skip) (state_of self.old))) }
+        ensures made { IsOk result }
+        ensures rest { ChangesStateAlone self.old self.new }
+    {
+        let args = two_registers_and_immediate(self.program.code(), at.pc, at.found.skip);
+        let from = address_from(self.value(args.b), args.x);
+        Ok(self.load(args.a, op, width, from, at.found.next))
+    }
+
+    /// A store of an immediate at an immediate address.
+    #[inline(never)]
+    pub(crate) fn store_y_at_x(&mut self, width: u8, at: At) -> Result<Option<Exit>, AllocError>
+        requires size { IsTrue (is_width width) }
+        requires at { IsAt at self.old }
+        ensures acts { IfOk result (λ exit. after_of self.new exit ≡ after self.old.program (state_of self.old) (stores_y_at_x width (arguments F4 self.old.program.code self.old.pc at.found.skip) (state_of self.old))) }
+        ensures rest { ChangesStateAlone self.old self.new }
+        ensures err { OnErr result (self.new ≡ self.old) }
+    {
+        let args = two_immediates(self.program.code(), at.pc, at.found.skip);
+        self.store(width, address(args.x), args.y, at.found.next)
+    }
+
+    /// A store of a register at an immediate address.
+    #[inline(never)]
+    pub(crate) fn store_a_at_x(&mut self, width: u8, at: At) -> Result<Option<Exit>, AllocError>
+        requires size { IsTrue (is_width width) }
+        requires at { IsAt at self.old }
+        ensures acts { IfOk result (λ exit. after_of self.new exit ≡ after self.old.program (state_of self.old) (stores_a_at_x width (arguments F6 self.old.program.code self.old.pc at.found.skip) (state_of self.old))) }
+        ensures rest { ChangesStateAlone self.old self.new }
+        ensures err { OnErr result (self.new ≡ self.old) }
+    {
+        let args = register_and_immediate(self.program.code(), at.pc, at.found.skip);
+        let value = self.value(args.a);
+        self.store(width, address(args.x), value, at.found.next)
+    }
+
+    /// A store of an immediate at an address in a register, with an offset.
+    #[inline(never)]
+    pub(crate) fn store_y_at_a_x(&mut self, width: u8, at: At) -> Result<Option<Exit>, AllocError>
+        requires size { IsTrue (is_width width) }
+        requires at { IsAt at self.old }
+        ensures acts { IfOk result (λ exit. after_of self.new exit ≡ after self.old.program (state_of self.old) (stores_y_at_a_x width (arguments F7 self.old.program.code self.old.pc at.found.skip) (state_of self.old))) }
+        ensures rest { ChangesStateAlone self.old self.new }
+        ensures err { OnErr result (self.new ≡ self.old) }
+    {
+        let args = register_and_two_immediates(self.program.code(), at.pc, at.found.skip);
+        let to = address_from(self.value(args.a), args.x);
+        self.store(width, to, args.y, at.found.next)
+    }
+
+    /// A store of a register at an address in another, with an offset.
+    #[inline(never)]
+    pub(crate) fn store_a_at_b_x(&mut self, width: u8, at: At) -> Result<Option<Exit>, AllocError>
+        requires size { IsTrue (is_width width) }
+        requires at { IsAt at self.old }
+        ensures acts { IfOk result (λ exit. after_of self.new exit ≡ after self.old.program (state_of self.old) (stores_a_at_b_x width (arguments F10 self.old.program.code self.old.pc at.found.skip) (state_of self.old))) }
+        ensures rest { ChangesStateAlone self.old self.new }
+        ensures err { OnErr result (self.new ≡ self.old) }
+    {
+        let args = two_registers_and_immediate(self.program.code(), at.pc, at.found.skip);
+        let to = address_from(self.value(args.b), args.x);
+        let value = self.value(args.a);
+        self.store(width, to, value, at.found.next)
+    }
+
+    /// More heap.
+    #[inline(never)]
+    pub(crate) fn sbrk(&mut self, at: At) -> Result<Option<Exit>, AllocError>
+        requires at { IsAt at self.old }
+        ensures acts { IfOk result (λ exit. after_of self.new exit ≡ after self.old.program (state_of self.old) (Grows (arguments F9 self.old.program.code self.old.pc at.found.skip).d (value_in (state_of self.old) (arguments F9 self.old.program.code self.old.pc at.found.skip).a))) }
+        ensures rest { ChangesStateAlone self.old self.new }
+        ensures err { OnErr result (self.new ≡ self.old) }
+    {
+        let args = two_registers(self.program.code(), at.pc);
+        let amount = self.value(args.a);
+        self.grow(args.d, amount, at.found.next)?;
+        Ok(None)
+    }
+}

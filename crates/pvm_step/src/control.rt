@@ -1,0 +1,154 @@
+// Instructions that jump, branch, call the host, or do nothing.
+ghost use Rattle.std.specs.Prelude.{◌≡◌, ◌+◌, IsTrue, true, IfOk, IsOk};
+ghost use Rattle.pvm_isa.specs.Arguments.{arguments};
+ghost use Rattle.pvm_isa.specs.Opcodes.{form_of};
+ghost use Rattle.pvm_isa.specs.declared.form.Form.TheVariants.{F2, F6, F8, F11, F12};
+ghost use Rattle.pvm_isa.specs.declared.op.Op.TheVariants.{Fallthrough, Jump, LoadImmJump};
+ghost use Rattle.blob_decode.specs.Program as blob;
+ghost use Rattle.pvm_alu.specs.Alu as alu;
+ghost use Rattle.pvm_step.specs.declared.exit.Exit.TheVariants.{Host};
+ghost use Rattle.pvm_step.specs.Effect.{Exits, JumpsThrough, GivesAndJumpsThrough, branches_on_a_x, branches_on_a_b, line, after, address, value_in, outcome};
+ghost use Rattle.pvm_step.specs.declared.attempt.Attempt.TheVariants.{Next};
+ghost use Rattle.pvm_step.specs.Machine.{IsAt, ChangesStateAlone, state_of, after_of, exit_after, is_done};
+
+use crate::address::address_from;
+use crate::at::At;
+use crate::attempt::Attempt;
+use crate::exit::Exit;
+use crate::machine::Machine;
+use pvm_alu::test;
+use pvm_isa::{
+    Op, one_immediate, one_offset, register_and_immediate, register_immediate_and_offset,
+    register_immediate_and_offset_in, two_registers_and_offset_in,
+    two_registers_and_two_immediates,
+};
+use std::alloc::AllocError;
+
+impl Machine {
+    /// Nothing.
+    #[inline(always)]
+    #[tactic(auto, unfolding(crate::specs::Effect::outcome, crate::specs::Effect::line, crate::specs::Effect::after, pvm_isa::specs::Opcodes::entry))]
+    pub(crate) fn fall_through(&mut self, at: At) -> Attempt
+        requires at { IsAt at self.old }
+        ensures acts { after_of self.new (exit_after result) ≡ outcome Fallthrough self.old.program (state_of self.old) }
+        ensures next { result ≡ Next → self.new.pc ≡ blob.next self.old.program self.old.pc }
+        ensures done { is_done result ≡ true }
+        ensures rest { ChangesStateAlone self.old self.new }
+    {
+        let _code = self.program.code();
+        self.go_on(at.found.next);
+        Attempt::Next
+    }
+
+    /// A host call.
+    #[inline(always)]
+    #[tactic(auto, unfolding(crate::specs::Effect::after))]
+    pub(crate) fn call_host(&mut self, at: At) -> Option<Exit>
+        requires at { IsAt at self.old }
+        ensures acts { after_of self.new result ≡ after self.old.program (state_of self.old) (Exits (Host (arguments F2 self.old.program.code self.old.pc at.found.skip).x)) }
+        ensures rest { ChangesStateAlone self.old self.new }
+    {
+        let args = one_immediate(self.program.code(), at.pc, at.found.skip);
+        Some(Exit::Host(args.x))
+    }
+
+    /// A jump.
+    #[inline(never)]
+    #[tactic(auto, unfolding(crate::specs::Effect::outcome, crate::specs::Effect::line, crate::specs::Effect::after, pvm_isa::specs::Opcodes::entry))]
+    pub(crate) fn jump_on(&mut self, at: At) -> Attempt
+        requires at { IsAt at self.old }
+        ensures acts { after_of self.new (exit_after result) ≡ outcome Jump self.old.program (state_of self.old) }
+        ensures next { result ≡ Next → self.new.pc ≡ blob.next self.old.program self.old.pc }
+        ensures done { is_done result ≡ true }
+        ensures rest { ChangesStateAlone self.old self.new }
+    {
+        let args = one_offset(self.program.code(), at.pc, at.found.skip);
+        self.jump(args.target)
+    }
+
+    /// A jump through the jump table.
+    #[inline(never)]
+    #[tactic(auto, unfolding(crate::specs::Effect::after))]
+    pub(crate) fn jump_ind(&mut self, at: At) -> Result<Option<Exit>, AllocError>
+        requires at { IsAt at self.old }
+        ensures acts { IfOk result (λ exit. after_of self.new exit ≡ after self.old.program (state_of self.old) (JumpsThrough (address ((value_in (state_of self.old) (arguments F6 self.old.program.code self.old.pc at.found.skip).a) + (arguments F6 self.old.program.code self.old.pc at.found.skip).x)))) }
+        ensures made { IsOk result }
+        ensures rest { ChangesStateAlone self.old self.new }
+    {
+        let args = register_and_immediate(self.program.code(), at.pc, at.found.skip);
+        let through = address_from(self.value(args.a), args.x);
+        Ok(self.jump_through(through))
+    }
+
+    /// A jump, after a register got an immediate.
+    #[inline(never)]
+    #[tactic(auto, unfolding(crate::specs::Effect::outcome, crate::specs::Effect::line, crate::specs::Effect::after, pvm_isa::specs::Opcodes::entry))]
+    pub(crate) fn load_imm_jump(&mut self, at: At) -> Attempt
+        requires at { IsAt at self.old }
+        ensures acts { after_of self.new (exit_after result) ≡ outcome LoadImmJump self.old.program (state_of self.old) }
+        ensures next { result ≡ Next → self.new.pc ≡ blob.next self.old.program self.old.pc }
+        ensures done { is_done result ≡ true }
+        ensures rest { ChangesStateAlone self.old self.new }
+    {
+        let args = register_immediate_and_offset(self.program.code(), at.pc, at.found.skip);
+        let target = args.target;
+        self.set(args.a, args.x);
+        self.jump(target)
+    }
+
+    /// A jump through the jump table by a register's old value, after a register got an immediate.
+    #[inline(never)]
+    #[tactic(auto, unfolding(crate::specs::Effect::after))]
+    pub(crate) fn load_imm_jump_ind(&mut self, at: At) -> Result<Option<Exit>, AllocError>
+        requires at { IsAt at self.old }
+        ensures acts { IfOk result (λ exit. after_of self.new exit ≡ after self.old.program (state_of self.old) (GivesAndJumpsThrough (arguments F12 self.old.program.code self.old.pc at.found.skip).a (arguments F12 self.old.program.code self.old.pc at.found.skip).x (address ((value_in (state_of self.old) (arguments F12 self.old.program.code self.old.pc at.found.skip).b) + (arguments F12 self.old.program.code self.old.pc at.found.skip).y)))) }
+        ensures made { IsOk result }
+        ensures rest { ChangesStateAlone self.old self.new }
+    {
+        let args = two_registers_and_two_immediates(self.program.code(), at.pc, at.found.skip);
+        let by = address_from(self.value(args.b), args.y);
+        self.set(args.a, args.x);
+        Ok(self.jump_through(by))
+    }
+
+    /// A branch on the value of a register and an immediate.
+    #[inline(never)]
+    pub(crate) fn branch_on_a_x(&mut self, op: Op, at: At) -> Attempt
+        requires line { line op ≡ branches_on_a_x op }
+        requires form { form_of op ≡ F8 }
+        requires operation { IsTrue (alu.is_test op) }
+        requires at { IsAt at self.old }
+        ensures acts { after_of self.new (exit_after result) ≡ outcome op self.old.program (state_of self.old) }
+        ensures next { result ≡ Next → self.new.pc ≡ blob.next self.old.program self.old.pc }
+        ensures done { is_done result ≡ true }
+        ensures rest { ChangesStateAlone self.old self.new }
+    {
+        let args = register_immediate_and_offset_in(
+            self.program.code(),
+            at.found.bytes,
+            at.pc,
+            at.found.skip,
+        );
+        let taken = test(op, self.value(args.a), args.x);
+        self.branch(taken, args.target, at.found.next)
+    }
+
+    /// A branch on the values of two registers.
+    #[inline(never)]
+    pub(crate) fn branch_on_a_b(&mut self, op: Op, at: At) -> Attempt
+        requires line { line op ≡ branches_on_a_b op }
+        requires form { form_of op ≡ F11 }
+        requires operation { IsTrue (alu.is_test op) }
+        requires at { IsAt at self.old }
+        ensures acts { after_of self.new (exit_after result) ≡ outcome op self.old.program (state_of self.old) }
+        ensures next { result ≡ Next → self.new.pc ≡ blob.next self.old.program self.old.pc }
+        ensures done { is_done result ≡ true }
+        ensures rest { ChangesStateAlone self.old self.new }
+    {
+        // The code is shorter than 2^63.
+        let _code = self.program.code();
+        let args = two_registers_and_offset_in(at.found.bytes, at.pc, at.found.skip);
+        let taken = test(op, self.value(args.a), self.value(args.b));
+        self.branch(taken, args.target, at.found.next)
+    }
+}

@@ -1,0 +1,188 @@
+// Instructions that give a register a value computed from registers and immediates. They are inlined in the loop of a
+// run, but for those that would take it past the size up to which the compiler heeds the hint.
+ghost use Rattle.std.specs.Prelude.{◌≡◌, IsTrue, true};
+ghost use Rattle.pvm_isa.specs.Opcodes.{form_of};
+ghost use Rattle.pvm_isa.specs.declared.form.Form.TheVariants.{F9, F10, F13};
+ghost use Rattle.pvm_isa.specs.declared.op.Op.TheVariants.{LoadImm64, LoadImm, MoveReg, CmovIzImm, CmovNzImm, CmovIz, CmovNz};
+ghost use Rattle.blob_decode.specs.Program as blob;
+ghost use Rattle.pvm_alu.specs.Alu as alu;
+ghost use Rattle.pvm_step.specs.Effect.{gives_of_a, gives_of_a_b, gives_of_b_x, line, outcome};
+ghost use Rattle.pvm_step.specs.declared.attempt.Attempt.TheVariants.{Next};
+ghost use Rattle.pvm_step.specs.Machine.{IsAt, ChangesStateAlone, state_of, after_of, exit_after, is_done};
+
+use crate::at::At;
+use crate::attempt::Attempt;
+use crate::machine::Machine;
+use pvm_alu::{binary, unary};
+use pvm_isa::{
+    Op, register_and_immediate, register_and_wide_immediate, three_registers_in,
+    two_registers_and_immediate, two_registers_and_immediate_in, two_registers_in,
+};
+
+impl Machine {
+    /// An operation with the values of two registers.
+    #[inline(always)]
+    pub(crate) fn give_of_a_b(&mut self, op: Op, at: At) -> Attempt
+        requires line { line op ≡ gives_of_a_b op }
+        requires form { form_of op ≡ F13 }
+        requires operation { IsTrue (alu.is_binary op) }
+        requires at { IsAt at self.old }
+        ensures acts { after_of self.new (exit_after result) ≡ outcome op self.old.program (state_of self.old) }
+        ensures next { result ≡ Next → self.new.pc ≡ blob.next self.old.program self.old.pc }
+        ensures done { is_done result ≡ true }
+        ensures rest { ChangesStateAlone self.old self.new }
+    {
+        let args = three_registers_in(at.found.bytes);
+        let value = binary(op, self.value(args.a), self.value(args.b));
+        self.give(args.d, value, at.found.next);
+        Attempt::Next
+    }
+
+    /// An operation with the value of a register and an immediate.
+    #[inline(always)]
+    pub(crate) fn give_of_b_x(&mut self, op: Op, at: At) -> Attempt
+        requires line { line op ≡ gives_of_b_x op }
+        requires form { form_of op ≡ F10 }
+        requires operation { IsTrue (alu.is_binary op) }
+        requires at { IsAt at self.old }
+        ensures acts { after_of self.new (exit_after result) ≡ outcome op self.old.program (state_of self.old) }
+        ensures next { result ≡ Next → self.new.pc ≡ blob.next self.old.program self.old.pc }
+        ensures done { is_done result ≡ true }
+        ensures rest { ChangesStateAlone self.old self.new }
+    {
+        let args = two_registers_and_immediate_in(at.found.bytes, at.found.skip);
+        let value = binary(op, self.value(args.b), args.x);
+        self.give(args.a, value, at.found.next);
+        Attempt::Next
+    }
+
+    /// An operation with the value of a register.
+    #[inline(always)]
+    pub(crate) fn give_of_a(&mut self, op: Op, at: At) -> Attempt
+        requires line { line op ≡ gives_of_a op }
+        requires form { form_of op ≡ F9 }
+        requires operation { IsTrue (alu.is_unary op) }
+        requires at { IsAt at self.old }
+        ensures acts { after_of self.new (exit_after result) ≡ outcome op self.old.program (state_of self.old) }
+        ensures next { result ≡ Next → self.new.pc ≡ blob.next self.old.program self.old.pc }
+        ensures done { is_done result ≡ true }
+        ensures rest { ChangesStateAlone self.old self.new }
+    {
+        let args = two_registers_in(at.found.bytes);
+        let value = unary(op, self.value(args.a));
+        self.give(args.d, value, at.found.next);
+        Attempt::Next
+    }
+
+    /// An immediate of 64 bits.
+    #[inline(never)]
+    #[tactic(auto, unfolding(crate::specs::Effect::outcome, crate::specs::Effect::line, pvm_isa::specs::Opcodes::entry))]
+    pub(crate) fn load_imm_64(&mut self, at: At) -> Attempt
+        requires at { IsAt at self.old }
+        ensures acts { after_of self.new (exit_after result) ≡ outcome LoadImm64 self.old.program (state_of self.old) }
+        ensures next { result ≡ Next → self.new.pc ≡ blob.next self.old.program self.old.pc }
+        ensures done { is_done result ≡ true }
+        ensures rest { ChangesStateAlone self.old self.new }
+    {
+        let args = register_and_wide_immediate(self.program.code(), at.pc);
+        self.give(args.a, args.x, at.found.next);
+        Attempt::Next
+    }
+
+    /// An immediate.
+    #[inline(never)]
+    #[tactic(auto, unfolding(crate::specs::Effect::outcome, crate::specs::Effect::line, pvm_isa::specs::Opcodes::entry))]
+    pub(crate) fn load_imm(&mut self, at: At) -> Attempt
+        requires at { IsAt at self.old }
+        ensures acts { after_of self.new (exit_after result) ≡ outcome LoadImm self.old.program (state_of self.old) }
+        ensures next { result ≡ Next → self.new.pc ≡ blob.next self.old.program self.old.pc }
+        ensures done { is_done result ≡ true }
+        ensures rest { ChangesStateAlone self.old self.new }
+    {
+        let args = register_and_immediate(self.program.code(), at.pc, at.found.skip);
+        self.give(args.a, args.x, at.found.next);
+        Attempt::Next
+    }
+
+    /// A register's value.
+    #[inline(always)]
+    #[tactic(auto, unfolding(crate::specs::Effect::outcome, crate::specs::Effect::line, pvm_isa::specs::Opcodes::entry))]
+    pub(crate) fn move_reg(&mut self, at: At) -> Attempt
+        requires at { IsAt at self.old }
+        ensures acts { after_of self.new (exit_after result) ≡ outcome MoveReg self.old.program (state_of self.old) }
+        ensures next { result ≡ Next → self.new.pc ≡ blob.next self.old.program self.old.pc }
+        ensures done { is_done result ≡ true }
+        ensures rest { ChangesStateAlone self.old self.new }
+    {
+        let args = two_registers_in(at.found.bytes);
+        let value = self.value(args.a);
+        self.give(args.d, value, at.found.next);
+        Attempt::Next
+    }
+
+    /// An immediate where a register is 0.
+    #[inline(never)]
+    #[tactic(auto, unfolding(crate::specs::Effect::outcome, crate::specs::Effect::line, pvm_isa::specs::Opcodes::entry))]
+    pub(crate) fn cmov_iz_imm(&mut self, at: At) -> Attempt
+        requires at { IsAt at self.old }
+        ensures acts { after_of self.new (exit_after result) ≡ outcome CmovIzImm self.old.program (state_of self.old) }
+        ensures next { result ≡ Next → self.new.pc ≡ blob.next self.old.program self.old.pc }
+        ensures done { is_done result ≡ true }
+        ensures rest { ChangesStateAlone self.old self.new }
+    {
+        let args = two_registers_and_immediate(self.program.code(), at.pc, at.found.skip);
+        let holds = self.value(args.b) == 0;
+        self.move_where(holds, args.a, args.x, at.found.next);
+        Attempt::Next
+    }
+
+    /// An immediate where a register is not 0.
+    #[inline(never)]
+    #[tactic(auto, unfolding(crate::specs::Effect::outcome, crate::specs::Effect::line, pvm_isa::specs::Opcodes::entry))]
+    pub(crate) fn cmov_nz_imm(&mut self, at: At) -> Attempt
+        requires at { IsAt at self.old }
+        ensures acts { after_of self.new (exit_after result) ≡ outcome CmovNzImm self.old.program (state_of self.old) }
+        ensures next { result ≡ Next → self.new.pc ≡ blob.next self.old.program self.old.pc }
+        ensures done { is_done result ≡ true }
+        ensures rest { ChangesStateAlone self.old self.new }
+    {
+        let args = two_registers_and_immediate(self.program.code(), at.pc, at.found.skip);
+        let holds = self.value(args.b) != 0;
+        self.move_where(holds, args.a, args.x, at.found.next);
+        Attempt::Next
+    }
+
+    /// A register's value where another is 0.
+    #[inline(always)]
+    #[tactic(auto, unfolding(crate::specs::Effect::outcome, crate::specs::Effect::line, pvm_isa::specs::Opcodes::entry))]
+    pub(crate) fn cmov_iz(&mut self, at: At) -> Attempt
+        requires at { IsAt at self.old }
+        ensures acts { after_of self.new (exit_after result) ≡ outcome CmovIz self.old.program (state_of self.old) }
+        ensures next { result ≡ Next → self.new.pc ≡ blob.next self.old.program self.old.pc }
+        ensures done { is_done result ≡ true }
+        ensures rest { ChangesStateAlone self.old self.new }
+    {
+        let args = three_registers_in(at.found.bytes);
+        let holds = self.value(args.b) == 0;
+        let value = self.value(args.a);
+        self.move_where(holds, args.d, value, at.found.next);
+        Attempt::Next
+    }
+
+    /// A register's value where another is not 0.
+    #[inline(always)]
+    #[tactic(auto, unfolding(crate::specs::Effect::outcome, crate::specs::Effect::line, pvm_isa::specs::Opcodes::entry))]
+    pub(crate) fn cmov_nz(&mut self, at: At) -> Attempt
+        requires at { IsAt at self.old }
+        ensures acts { after_of self.new (exit_after result) ≡ outcome CmovNz self.old.program (state_of self.old) }
+        ensures next { result ≡ Next → self.new.pc ≡ blob.next self.old.program self.old.pc }
+        ensures done { is_done result ≡ true }
+        ensures rest { ChangesStateAlone self.old self.new }
+    {
+        let args = three_registers_in(at.found.bytes);
+        let holds = self.value(args.b) != 0;
+        let value = self.value(args.a);
+        self.move_where(holds, args.d, value, at.found.next);
+        Attempt::Next
+    }
+}
