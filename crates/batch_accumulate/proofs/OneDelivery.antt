@@ -113,6 +113,7 @@ put_leaves accounts service id account next false here there leaves = refl
 
 either_leaves : (slot : ℕ) (done : Delivered) (service : ℕ) (bytes : List ℕ) (id : ℕ) (account : Account) (r : Option Account) → fin.get done.accounts service ≡ Some account → received slot bytes account ≡ r
     → option_map undelivered (fin.get (with_account done service r).accounts id) ≡ option_map undelivered (fin.get done.accounts id)
+unfolding received
 either_leaves slot done service bytes id account None there is = refl
 either_leaves slot done service bytes id account (Some next) there is =
     ap (option_map undelivered) (fin.get-insert nat_cmp_total done.accounts service next id)

@@ -18,5 +18,5 @@ with_preimage bytes account history = record account {
 }
 
 -- the account after the delivery of these bytes; none where they are passed over
-abbrev pub received : ℕ → List ℕ → Account → Option Account
+unfoldable pub received : ℕ → List ℕ → Account → Option Account
 received slot bytes account = option_map (with_preimage bytes account) (history_after slot bytes account)

@@ -192,6 +192,7 @@ impl Account {
     ///
     /// # Errors
     /// `AllocError` for want of memory, where it is to be stored; the account is then as before.
+    #[tactic(auto, unfolding(crate::specs::Receipt::received))]
     pub fn receive(&mut self, alloc: Global, bytes: &[u8], slot: u32) -> Result<bool, AllocError>
         ensures stored { IfOk result (λ stored. stored ≡ is_some (received slot bytes.now self.old)) }
         ensures after { OnOk result (self.new ≡ unwrap_or (received slot bytes.now self.old) self.old) }
