@@ -72,6 +72,7 @@ fn accumulate_on<'a>(
 }
 
 /// The work of a command on its files.
+#[tactic(auto, using(crate::proofs::Carried::worked))]
 pub fn work_of<'a>(
     alloc: Global,
     command: Command<'a>,
