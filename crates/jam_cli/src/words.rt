@@ -12,7 +12,7 @@ use crate::verb::{Kind, Verb, verb_of};
 use std::alloc::{AllocError, Global};
 
 /// A row of the table of words, with its arguments. The files that it reads are not among them.
-#[derive(Clone, Copy)]
+#[derive(Drop)]
 pub enum Command<'a> {
     /// `run BLOB GAS`: runs a program blob with so much gas.
     Run {

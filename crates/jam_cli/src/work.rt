@@ -75,21 +75,21 @@ fn accumulate_on<'a>(
 #[tactic(auto, using(crate::proofs::Carried::worked))]
 pub fn work_of<'a>(
     alloc: Global,
-    command: Command<'a>,
+    command: &Command<'a>,
     files: &[File<'_>],
 ) -> Result<Work<'a>, Refusal>
-    requires kinds { kinds (inputs_in files.now) ≡ kinds (inputs (asked command)) }
+    requires kinds { kinds (inputs_in files.now) ≡ kinds (inputs (asked command.now)) }
     requires kept { AreKept files.now }
-    ensures { WorkedOn (asked command.entry) files.now result }
+    ensures { WorkedOn (asked command.now) files.now result }
 {
     match command {
-        Command::Run { blob, gas } => run_on(alloc, blob, gas, files),
-        Command::Hash(file) => hash_on(alloc, file, files),
+        Command::Run { blob, gas } => run_on(alloc, *blob, *gas, files),
+        Command::Hash(file) => hash_on(alloc, *file, files),
         Command::Accumulate {
             state,
             batch,
             posterior,
             slice,
-        } => accumulate_on(alloc, state, batch, posterior, slice, files),
+        } => accumulate_on(alloc, *state, *batch, *posterior, *slice, files),
     }
 }
