@@ -5,10 +5,13 @@ use Rattle.jam_outside.specs.Causes.{VaultState, SinkState, Appends, AppendsPref
 use Rattle.std.proofs.Math.Seq.{take-length}
 use Rattle.jam_cli.specs.declared.refusal.Refusal.{Refusal}
 use Rattle.jam_cli.specs.declared.refusal.Refusal.TheVariants.{NoMemory, BadWords, ReadFault, TooLong, NotSpelled, BadLine, SinkFault, StoreFault}
+use Rattle.jam_cli.specs.declared.reads.File as code_file
+use Rattle.jam_cli.specs.declared.words.Command as parsed
+use Rattle.jam_cli.specs.declared.work.Work as code_work
 use Rattle.jam_cli.specs.Table.{Input, Command, Asks, inputs}
 use Rattle.jam_cli.specs.Command.{File, held, kinds, SpellAll, Product, Work, made, bad_line}
 use Rattle.jam_cli.specs.Ending.{Call, call, AllRead, FirstRefused, IsInputWord, Works}
-use Rattle.jam_cli.specs.Parts.{NotRead, NotAllSpelled, NotWorked, NotPrinted, NotStored, IsWork, Makes, Ends, CallEnds, inputs_of, AreHeld}
+use Rattle.jam_cli.specs.Parts.{asked, NotRead, NotAllSpelled, NotWorked, WorkedOn, NotPrinted, NotStored, IsWork, Makes, Ends, CallEnds, inputs_of, AreHeld}
 use Rattle.jam_cli.proofs.Once.{entry_named}
 
 -- where a fact holds of what is told, so does what follows from it
@@ -116,3 +119,7 @@ call_ends (Err (NotSpelled word place)) c words k asks ends = (c, asks, ends)
 call_ends (Err (BadLine line kind)) c words k asks ends = (c, asks, ends)
 call_ends (Err SinkFault) c words k asks ends = (c, asks, ends)
 call_ends (Err StoreFault) c words k asks ends = (c, asks, ends)
+
+-- the work on a command that the code holds
+pub worked : (c d : parsed.Command) (fs : List code_file.File) (r : Result code_work.Work Refusal) → c ≡ d → WorkedOn (asked d) fs r → WorkedOn (asked c) fs r
+worked c d fs r same on = subst (λ e. WorkedOn (asked e) fs r) (sym same) on

@@ -26,7 +26,7 @@ fn carry_out<V: Vault, S: Sink>(
     ensures { Ends result (asked line.now.command) (call (V.state vault.old) (V.state vault.new) (S.state out.old) (S.state out.new)) }
 {
     let files = read_inputs(alloc, vault, &line.inputs)?;
-    let work = work_of(alloc, line.command, &files)?;
+    let work = work_of(alloc, &line.command, &files)?;
     print(out, &work.text)?;
     store(vault, &work.entry)?;
     Ok(())

@@ -12,7 +12,7 @@ use crate::verb::{Kind, Verb, verb_of};
 use std::alloc::{AllocError, Global};
 
 /// A row of the table of words, with its arguments. The files that it reads are not among them.
-#[derive(Clone, Copy)]
+#[derive(Drop)]
 pub enum Command<'a> {
     /// `run BLOB GAS`: runs a program blob with so much gas.
     Run {
@@ -20,9 +20,7 @@ pub enum Command<'a> {
         gas: Small,
     },
     /// `hash FILE`: the digest of the bytes of a file.
-    Hash {
-        file: &'a str,
-    },
+    Hash(&'a str),
     /// `accumulate STATE BATCH POSTERIOR SLICE`: stores the state that a batch makes of a state.
     Accumulate {
         state: &'a str,
@@ -81,7 +79,7 @@ fn hash_of<'a>(alloc: Global, words: &'a [String]) -> Result<Line<'a>, Misfit>
     };
     let file = name(file)?;
     Ok(Line {
-        command: Command::Hash { file },
+        command: Command::Hash(file),
         inputs: vec![in alloc; input(1, file, Kind::Bytes)]?,
         stored: None,
     })

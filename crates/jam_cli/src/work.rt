@@ -1,4 +1,6 @@
 // What each command makes of the values of its files.
+#![tactic(auto, using(std::proofs::lemmas::Result::err_from_is_err_and, crate::proofs::Carried::not_worked))]
+
 ghost use Rattle.std.specs.Prelude.{◌≡◌, [], ◌∷◌};
 ghost use Rattle.jam_cli.specs.declared.verb.Kind.TheVariants as kind;
 ghost use Rattle.jam_cli.specs.declared.verb.Verb.TheVariants as the;
@@ -30,7 +32,6 @@ pub struct Work<'a> {
     pub entry: Option<Entry<'a>>,
 }
 
-#[tactic(auto, using(std::proofs::lemmas::Result::err_from_is_err_and, crate::proofs::Carried::not_worked))]
 fn run_on<'a>(
     alloc: Global,
     blob: &'a str,
@@ -45,7 +46,6 @@ fn run_on<'a>(
     Ok(run(alloc, program, gas)?)
 }
 
-#[tactic(auto, using(std::proofs::lemmas::Result::err_from_is_err_and, crate::proofs::Carried::not_worked))]
 fn hash_on<'a>(alloc: Global, file: &'a str, files: &[File<'_>]) -> Result<Work<'a>, Refusal>
     requires kinds { kinds (inputs_in files.now) ≡ kind.Bytes ∷ [] }
     requires kept { AreKept files.now }
@@ -55,7 +55,6 @@ fn hash_on<'a>(alloc: Global, file: &'a str, files: &[File<'_>]) -> Result<Work<
     Ok(hash(alloc, digest)?)
 }
 
-#[tactic(auto, using(std::proofs::lemmas::Result::err_from_is_err_and, crate::proofs::Carried::not_worked))]
 fn accumulate_on<'a>(
     alloc: Global,
     state: &'a str,
@@ -73,23 +72,24 @@ fn accumulate_on<'a>(
 }
 
 /// The work of a command on its files.
+#[tactic(auto, using(crate::proofs::Carried::worked))]
 pub fn work_of<'a>(
     alloc: Global,
-    command: Command<'a>,
+    command: &Command<'a>,
     files: &[File<'_>],
 ) -> Result<Work<'a>, Refusal>
-    requires kinds { kinds (inputs_in files.now) ≡ kinds (inputs (asked command)) }
+    requires kinds { kinds (inputs_in files.now) ≡ kinds (inputs (asked command.now)) }
     requires kept { AreKept files.now }
-    ensures { WorkedOn (asked command.entry) files.now result }
+    ensures { WorkedOn (asked command.now) files.now result }
 {
     match command {
-        Command::Run { blob, gas } => run_on(alloc, blob, gas, files),
-        Command::Hash { file } => hash_on(alloc, file, files),
+        Command::Run { blob, gas } => run_on(alloc, *blob, *gas, files),
+        Command::Hash(file) => hash_on(alloc, *file, files),
         Command::Accumulate {
             state,
             batch,
             posterior,
             slice,
-        } => accumulate_on(alloc, state, batch, posterior, slice, files),
+        } => accumulate_on(alloc, *state, *batch, *posterior, *slice, files),
     }
 }
