@@ -4,15 +4,16 @@ use Rattle.std.specs.Prelude.{◌==◌, if◌then◌else◌, is_some, unwrap_or}
 use Rattle.std.proofs.lemmas.Bool.{cases_lt, le-ltb, lt-ltb}
 use Rattle.std.proofs.lemmas.List.{get_or_past}
 use Rattle.jam_codec.specs.Spelling.{little_endian, little_number, numbers, binary_number, binary_digits, bytes_for, packed}
-use Rattle.jam_codec.specs.Reading.{Reading, Reads, bytes_at, past}
-use Rattle.jam_codec.specs.Format.{numbers_of}
+use Rattle.jam_codec.specs.Reading.{Reading, Reads, Refuses, bytes_at, past}
+use Rattle.jam_codec.specs.Format.{Format, numbers_of}
 use Rattle.jam_codec.specs.Laws.{AreBytes}
 use Rattle.jam_codec.proofs.Bits.{length-binary_digits, length-packed, binary_digits-of_bytes, binary_number-below, binary_number-fits}
 use Rattle.jam_codec.proofs.Numbers.{numbers-get, little_number-little_endian, items_at-numbers_front, items_at-missing}
 use Rattle.pvm_isa.specs.declared.op.Op.{Op}
 use Rattle.pvm_isa.specs.declared.op.Op.TheVariants.{Trap}
 use Rattle.pvm_isa.specs.Opcodes.{op_numbered}
-use Rattle.blob_decode.specs.Program.{Program, mask_bit, code_byte, op_at, skip}
+use Rattle.blob_decode.specs.Program.{Program, mask_bit, op_at, skip}
+use Rattle.pvm_isa.specs.Arguments.{code_byte}
 use Rattle.blob_decode.specs.Kept.{program_of, Keeps}
 use Rattle.blob_decode.proofs.Starts.{gap-here}
 
@@ -60,8 +61,18 @@ Keeps-read count width size table code mask counted narrow jumps sized packs =
       bytes = subst AreBytes (sym packs) (AreBytes-little_endian (bytes_for (length bits)) (binary_number bits));
     }
 
+-- bytes that are there are not refused
+not-refused : {A : Type 0} → (place : Option ℕ) (f : Format A) (r : Reading) (size : ℕ) → size ≤ length r.rest → Refuses place (bytes_at size r) → Refuses place (f.read r)
+unfolding bytes_at
+not-refused None f r size enough is = tt
+not-refused (Some place) f r size enough is =
+    let long : nat_lt (length r.rest) size ≡ false = le-ltb (length r.rest) size enough in
+    let found : Result (List ℕ × Reading) ℕ = Ok (take size r.rest, past size r) in
+    let here : found ≡ Err place = rw long at is in
+    absurd (cc here)
+
 -- the jumps, read as their bytes
-pub Reads-numbers : {X E : Type 0} → (place : E → ℕ) (now : X → List ℕ) (result : Result X E) (new r : Reading) (width n size : ℕ) → size ≡ n * width → size ≤ length r.rest → Reads place now result new (bytes_at size r) → Reads place (λ x. numbers width n (now x)) result new ((numbers_of width n).read r)
+pub Reads-numbers : {X E : Type 0} → (place : E → Option ℕ) (now : X → List ℕ) (result : Result X E) (new r : Reading) (width n size : ℕ) → size ≡ n * width → size ≤ length r.rest → Reads place now result new (bytes_at size r) → Reads place (λ x. numbers width n (now x)) result new ((numbers_of width n).read r)
 unfolding bytes_at
 Reads-numbers place now (Ok x) new r width n size sized enough is =
     let long : nat_lt (length r.rest) size ≡ false = le-ltb (length r.rest) size enough in
@@ -71,11 +82,7 @@ Reads-numbers place now (Ok x) new r width n size sized enough is =
     let at : ℕ → Result (List ℕ × Reading) ℕ = λ k. Ok (numbers width n (take k r.rest), past k r) in
     let of : List ℕ × Reading → Result (List ℕ × Reading) ℕ = λ q. Ok (numbers width n q.0, q.1) in
     items_at-numbers_front width n None r (omega arith) ∙ ap at (sym sized) ∙ ap of same
-Reads-numbers place now (Err e) new r width n size sized enough is =
-    let long : nat_lt (length r.rest) size ≡ false = le-ltb (length r.rest) size enough in
-    let found : Result (List ℕ × Reading) ℕ = Ok (take size r.rest, past size r) in
-    let here : found ≡ Err (place e) = rw long at is in
-    absurd (cc here)
+Reads-numbers place now (Err e) new r width n size sized enough is = not-refused (place e) (numbers_of width n) r size enough is
 
 -- some bytes of the jumps are missing
 pub numbers-missing : (width n left w begin place : ℕ) (r : Reading) → length r.rest < n * width → left ≡ length r.rest → w ≡ width → begin ≡ r.place → place ≡ begin + left / w * w → (numbers_of width n).read r ≡ Err place
@@ -88,11 +95,11 @@ some_or : (found : Option Op) → unwrap_or found Trap ≡ (if is_some found the
 some_or None = refl
 some_or (Some op) = refl
 
-pub op_at-begun : (p : Program) (i byte : ℕ) → i < length p.code → mask_bit p i ≡ true → byte ≡ code_byte p i → unwrap_or (op_numbered byte) Trap ≡ op_at p i
+pub op_at-begun : (p : Program) (i byte : ℕ) → i < length p.code → mask_bit p i ≡ true → byte ≡ code_byte p.code i → unwrap_or (op_numbered byte) Trap ≡ op_at p i
 unfolding op_at
 op_at-begun p i byte within begins is =
     let inside : nat_lt i (length p.code) ≡ true = lt-ltb i (length p.code) within in
-    rw (inside, begins, is) (some_or (op_numbered (code_byte p i)))
+    rw (inside, begins, is) (some_or (op_numbered (code_byte p.code i)))
 
 pub op_at-none : (p : Program) (i : ℕ) → mask_bit p i ≡ false → Trap ≡ op_at p i
 unfolding op_at

@@ -6,7 +6,8 @@ use Rattle.std.proofs.lemmas.Bool.{cases_lt, cases_order, cases_Bool, eqb-true, 
 use Rattle.std.proofs.lemmas.Bool.Decides.{Decides-below_or}
 use Rattle.pvm_isa.specs.Opcodes.{number_of, op_numbered}
 use Rattle.pvm_isa.specs.Terminators.{is_terminator}
-use Rattle.blob_decode.specs.Program.{Program, mask_bit, code_byte, gap, next, op_begins, ends, ends_block, ends_before, some_below, is_start, IsStart}
+use Rattle.blob_decode.specs.Program.{Program, mask_bit, gap, next, op_begins, ends, ends_block, ends_before, some_below, is_start, IsStart}
+use Rattle.pvm_isa.specs.Arguments.{code_byte}
 use Rattle.pvm_isa.specs.declared.op.Op.{Op}
 use Rattle.pvm_isa.proofs.Lookups.{numbered, numbered-only}
 
@@ -95,36 +96,36 @@ some_below-Decides : (n : ℕ) (test : ℕ → Bool) → Decides (some_below n t
 unfolding some_below
 some_below-Decides n test = Decides-below_or test (λ k. test k ≡ true) (λ n. some_below n test) (λ k. (λ e. e, λ e. e)) refl (λ n. refl) n
 
-ends_before-Decides : (p : Program) (i n : ℕ) → Decides (ends_before p i n) ((mask_bit p n ≡ true) × (ends_block (code_byte p n) ≡ true) × (next p n ≡ i))
+ends_before-Decides : (p : Program) (i n : ℕ) → Decides (ends_before p i n) ((mask_bit p n ≡ true) × (ends_block (code_byte p.code n) ≡ true) × (next p n ≡ i))
 ends_before-Decides p i n = (
   λ e.
-      let parts : ((mask_bit p n && ends_block (code_byte p n)) ≡ true) × ((next p n == i) ≡ true) = and_parts (mask_bit p n && ends_block (code_byte p n)) (next p n == i) e in
-      let first : (mask_bit p n ≡ true) × (ends_block (code_byte p n) ≡ true) = and_parts (mask_bit p n) (ends_block (code_byte p n)) parts.0 in
+      let parts : ((mask_bit p n && ends_block (code_byte p.code n)) ≡ true) × ((next p n == i) ≡ true) = and_parts (mask_bit p n && ends_block (code_byte p.code n)) (next p n == i) e in
+      let first : (mask_bit p n ≡ true) × (ends_block (code_byte p.code n) ≡ true) = and_parts (mask_bit p n) (ends_block (code_byte p.code n)) parts.0 in
       (first.0, first.1, eqb-true (next p n) i parts.1),
-  λ h. and_from (mask_bit p n && ends_block (code_byte p n)) (next p n == i) (and_from (mask_bit p n) (ends_block (code_byte p n)) h.0 h.1) (eq-eqb (next p n) i h.2),
+  λ h. and_from (mask_bit p n && ends_block (code_byte p.code n)) (next p n == i) (and_from (mask_bit p n) (ends_block (code_byte p.code n)) h.0 h.1) (eq-eqb (next p n) i h.2),
 )
 
 -- some instruction that ends a block ends right before i
 abbrev pub ended : (p : Program) (i : ℕ) → Bool
 ended p i = some_below (length p.code) (ends_before p i)
 
-ended-Decides : (p : Program) (i : ℕ) → Decides (ended p i) ((n : ℕ) × (n < length p.code) × (mask_bit p n ≡ true) × (ends_block (code_byte p n) ≡ true) × (next p n ≡ i))
+ended-Decides : (p : Program) (i : ℕ) → Decides (ended p i) ((n : ℕ) × (n < length p.code) × (mask_bit p n ≡ true) × (ends_block (code_byte p.code n) ≡ true) × (next p n ≡ i))
 ended-Decides p i = (
   λ e.
       let k : (k : ℕ) × (k < length p.code) × (ends_before p i k ≡ true) = (some_below-Decides (length p.code) (ends_before p i)).0 e in
-      let parts : (mask_bit p k.0 ≡ true) × (ends_block (code_byte p k.0) ≡ true) × (next p k.0 ≡ i) = (ends_before-Decides p i k.0).0 k.2 in
+      let parts : (mask_bit p k.0 ≡ true) × (ends_block (code_byte p.code k.0) ≡ true) × (next p k.0 ≡ i) = (ends_before-Decides p i k.0).0 k.2 in
       (k.0, k.1, parts.0, parts.1, parts.2),
   λ h. (some_below-Decides (length p.code) (ends_before p i)).1 (h.0, h.1, (ends_before-Decides p i h.0).1 (h.2, h.3, h.4)),
 )
 
-pub ended-nearest : (p : Program) (i n : ℕ) → IsNearest p i n → n < length p.code → mask_bit p i ≡ true → ended p i ≡ ends_block (code_byte p n)
-ended-nearest p i n nearest within begins = elim (cases_Bool (ends_block (code_byte p n))) [
+pub ended-nearest : (p : Program) (i n : ℕ) → IsNearest p i n → n < length p.code → mask_bit p i ≡ true → ended p i ≡ ends_block (code_byte p.code n)
+ended-nearest p i n nearest within begins = elim (cases_Bool (ends_block (code_byte p.code n))) [
   | inl ends ↦ (ended-Decides p i).1 (n, within, nearest.begins, ends, next-nearest p i n nearest begins) ∙ sym ends
   | inr goes ↦
       false_from_ne_true (ended p i) (λ e.
-      let k : (k : ℕ) × (k < length p.code) × (mask_bit p k ≡ true) × (ends_block (code_byte p k) ≡ true) × (next p k ≡ i) = (ended-Decides p i).0 e in
+      let k : (k : ℕ) × (k < length p.code) × (mask_bit p k ≡ true) × (ends_block (code_byte p.code k) ≡ true) × (next p k ≡ i) = (ended-Decides p i).0 e in
       let same : k.0 ≡ n = only-nearest p i n k.0 nearest k.2 k.4 in
-      let ends : ends_block (code_byte p n) ≡ true = ap (λ (j : ℕ). ends_block (code_byte p j)) (sym same) ∙ k.3 in
+      let ends : ends_block (code_byte p.code n) ≡ true = ap (λ (j : ℕ). ends_block (code_byte p.code j)) (sym same) ∙ k.3 in
       absurd (cc (ends, goes)))
       ∙ sym goes
 ]
@@ -132,7 +133,7 @@ ended-nearest p i n nearest within begins = elim (cases_Bool (ends_block (code_b
 pub ended-none : (p : Program) (i : ℕ) → ((j : ℕ) → j < i → i ≤ j + 25 → mask_bit p j ≡ false) → ended p i ≡ false
 ended-none p i none =
     false_from_ne_true (ended p i) (λ e.
-    let k : (k : ℕ) × (k < length p.code) × (mask_bit p k ≡ true) × (ends_block (code_byte p k) ≡ true) × (next p k ≡ i) = (ended-Decides p i).0 e in
+    let k : (k : ℕ) × (k < length p.code) × (mask_bit p k ≡ true) × (ends_block (code_byte p.code k) ≡ true) × (next p k ≡ i) = (ended-Decides p i).0 e in
     none-before p i k.0 none k.2 k.4)
 
 -- an instruction with a defined opcode, in words
@@ -157,15 +158,15 @@ ends_block-Decides b = (
   λ h. let found : op_numbered b ≡ Some h.0 = ap op_numbered (sym h.1) ∙ numbered h.0 in rw found h.2,
 )
 
-op_begins-Decides : (p : Program) (i : ℕ) → Decides (op_begins p i) ((i < length p.code) × (mask_bit p i ≡ true) × ((op : Op) × (number_of op ≡ code_byte p i)))
+op_begins-Decides : (p : Program) (i : ℕ) → Decides (op_begins p i) ((i < length p.code) × (mask_bit p i ≡ true) × ((op : Op) × (number_of op ≡ code_byte p.code i)))
 op_begins-Decides p i = (
   λ e.
-      let parts : ((nat_lt i (length p.code) && mask_bit p i) ≡ true) × (is_some (op_numbered (code_byte p i)) ≡ true) = and_parts (nat_lt i (length p.code) && mask_bit p i) (is_some (op_numbered (code_byte p i))) e in
+      let parts : ((nat_lt i (length p.code) && mask_bit p i) ≡ true) × (is_some (op_numbered (code_byte p.code i)) ≡ true) = and_parts (nat_lt i (length p.code) && mask_bit p i) (is_some (op_numbered (code_byte p.code i))) e in
       let first : (nat_lt i (length p.code) ≡ true) × (mask_bit p i ≡ true) = and_parts (nat_lt i (length p.code)) (mask_bit p i) parts.0 in
-      (ltb-true i (length p.code) first.0, first.1, (defined-Decides (code_byte p i)).0 parts.1),
-  λ h. and_from (nat_lt i (length p.code) && mask_bit p i) (is_some (op_numbered (code_byte p i)))
+      (ltb-true i (length p.code) first.0, first.1, (defined-Decides (code_byte p.code i)).0 parts.1),
+  λ h. and_from (nat_lt i (length p.code) && mask_bit p i) (is_some (op_numbered (code_byte p.code i)))
       (and_from (nat_lt i (length p.code)) (mask_bit p i) (lt-ltb i (length p.code) h.0) h.1)
-      ((defined-Decides (code_byte p i)).1 h.2),
+      ((defined-Decides (code_byte p.code i)).1 h.2),
 )
 
 pub is_start-IsStart : (p : Program) (i : ℕ) → IsTrue (is_start p i) ↔ IsStart p i
@@ -173,7 +174,7 @@ unfolding is_start
 is_start-IsStart p i = (
   λ e.
       let parts : (op_begins p i ≡ true) × ((i == 0 || ended p i) ≡ true) = and_parts (op_begins p i) (i == 0 || ended p i) e in
-      let begins : (i < length p.code) × (mask_bit p i ≡ true) × ((op : Op) × (number_of op ≡ code_byte p i)) = (op_begins-Decides p i).0 parts.0 in
+      let begins : (i < length p.code) × (mask_bit p i ≡ true) × ((op : Op) × (number_of op ≡ code_byte p.code i)) = (op_begins-Decides p i).0 parts.0 in
       record {
         within = begins.0;
         begins = begins.1;
@@ -181,14 +182,14 @@ is_start-IsStart p i = (
         after = elim (or_cases (i == 0) (ended p i) parts.1) [
           | inl first ↦ inl (eqb-true i 0 first)
           | inr later ↦
-              let n : (n : ℕ) × (n < length p.code) × (mask_bit p n ≡ true) × (ends_block (code_byte p n) ≡ true) × (next p n ≡ i) = (ended-Decides p i).0 later in
-              inr (n.0, n.1, n.2, (ends_block-Decides (code_byte p n.0)).0 n.3, sym n.4)
+              let n : (n : ℕ) × (n < length p.code) × (mask_bit p n ≡ true) × (ends_block (code_byte p.code n) ≡ true) × (next p n ≡ i) = (ended-Decides p i).0 later in
+              inr (n.0, n.1, n.2, (ends_block-Decides (code_byte p.code n.0)).0 n.3, sym n.4)
         ];
       },
   λ is. and_from (op_begins p i) (i == 0 || ended p i)
       ((op_begins-Decides p i).1 (is.within, is.begins, is.defined))
       (elim is.after [
         | inl first ↦ or_left (i == 0) (ended p i) (eq-eqb i 0 first)
-        | inr n ↦ or_right (i == 0) (ended p i) ((ended-Decides p i).1 (n.0, n.1, n.2, (ends_block-Decides (code_byte p n.0)).1 n.3, sym n.4))
+        | inr n ↦ or_right (i == 0) (ended p i) ((ended-Decides p i).1 (n.0, n.1, n.2, (ends_block-Decides (code_byte p.code n.0)).1 n.3, sym n.4))
       ]),
 )

@@ -3,6 +3,7 @@ use Rattle.std.specs.Prelude.{◌≡◌, ◌<◌, ◌⊎◌, IsTrue, ℕ, zero, 
 use Rattle.jam_codec.specs.Format.{Format, both, by, natural_where, fixed_where, bytes_where, bits_where, numbers_of, any}
 use Rattle.pvm_isa.specs.declared.op.Op.{Op}
 use Rattle.pvm_isa.specs.declared.op.Op.TheVariants.{Trap}
+use Rattle.pvm_isa.specs.Arguments.{code_byte}
 use Rattle.pvm_isa.specs.Opcodes.{number_of, op_numbered}
 use Rattle.pvm_isa.specs.Terminators.{is_terminator}
 
@@ -29,10 +30,6 @@ program_blob = by (λ f. record { width = f.1.0; jumps = f.1.1.1.0; code = f.1.1
 abbrev pub mask_bit : Program → ℕ → Bool
 mask_bit p i = get_or p.mask i true
 
--- and the code by zeros
-abbrev pub code_byte : Program → ℕ → ℕ
-code_byte p i = get_or p.code i 0
-
 -- of the n places from i on, how many stand before the first at which an instruction begins
 unfoldable pub gap : Program → ℕ → ℕ → ℕ
 gap p i zero = 0
@@ -48,11 +45,11 @@ next p i = i + 1 + skip p i
 
 -- an instruction with a defined opcode begins at i
 abbrev pub op_begins : Program → ℕ → Bool
-op_begins p i = nat_lt i (length p.code) && mask_bit p i && is_some (op_numbered (code_byte p i))
+op_begins p i = nat_lt i (length p.code) && mask_bit p i && is_some (op_numbered (code_byte p.code i))
 
 -- the opcode at i: trap where no instruction with a defined opcode begins
 unfoldable pub op_at : Program → ℕ → Op
-op_at p i = if op_begins p i then unwrap_or (op_numbered (code_byte p i)) Trap else Trap
+op_at p i = if op_begins p i then unwrap_or (op_numbered (code_byte p.code i)) Trap else Trap
 
 -- a byte is the number of an opcode that ends a block; a number that is not defined ends none
 abbrev pub ends : Option Op → Bool
@@ -64,7 +61,7 @@ ends_block byte = ends (op_numbered byte)
 
 -- an instruction that ends a block stands at n, and the place after it is i
 abbrev pub ends_before : Program → ℕ → ℕ → Bool
-ends_before p i n = mask_bit p n && ends_block (code_byte p n) && next p n == i
+ends_before p i n = mask_bit p n && ends_block (code_byte p.code n) && next p n == i
 
 -- a test passes at some place below n
 unfoldable pub some_below : ℕ → (ℕ → Bool) → Bool
@@ -79,9 +76,9 @@ is_start p i = op_begins p i && (i == 0 || some_below (length p.code) (ends_befo
 pub record IsStart (p : Program) (i : ℕ) : Type 0 where
   pub within : i < length p.code
   pub begins : IsTrue (mask_bit p i)
-  pub defined : (op : Op) × (number_of op ≡ code_byte p i)
+  pub defined : (op : Op) × (number_of op ≡ code_byte p.code i)
   pub after : (i ≡ 0) ⊎ ((n : ℕ) × (n < length p.code) × IsTrue (mask_bit p n)
-      × ((op : Op) × (number_of op ≡ code_byte p n) × IsTrue (is_terminator op)) × (i ≡ next p n))
+      × ((op : Op) × (number_of op ≡ code_byte p.code n) × IsTrue (is_terminator op)) × (i ≡ next p n))
 
 -- where a jump leads
 pub data Landing : Type 0 where

@@ -1,5 +1,5 @@
 // The fields of a blob, in its bytes.
-ghost use Rattle.std.specs.Prelude.{◌≡◌, ◌*◌, ◌≤◌, ◌++◌, IfOk, OnOk, MatchResult, Ok, Err, length};
+ghost use Rattle.std.specs.Prelude.{◌≡◌, ◌*◌, ◌≤◌, ◌++◌, IfOk, OnOk, MatchResult, Ok, Err, Some, length};
 ghost use Rattle.jam_codec.specs.Spelling.{little_number, numbers, binary_digits};
 ghost use Rattle.jam_codec.specs.Reading.{Reads};
 ghost use Rattle.jam_codec.specs.Format.{numbers_of, whole};
@@ -25,7 +25,7 @@ pub struct Parts<'a> {
 // The bytes of so many jumps; where some are missing, the place is that of the first jump
 // that is not whole.
 fn read_table<'a>(cursor: &mut Cursor<'a>, count: u64, width: u8) -> Result<&'a [u8], Malformed>
-    ensures exact { Reads (λ e. e.place) (λ table. numbers width count table.now) result cursor.new ((numbers_of width count).read cursor.old) }
+    ensures exact { Reads (λ e. Some e.place) (λ table. numbers width count table.now) result cursor.new ((numbers_of width count).read cursor.old) }
     ensures whole { IfOk result (λ table. length table.now ≡ count * width) }
 {
     let left = cursor.remaining();
@@ -46,7 +46,7 @@ fn read_lists<'a>(
     size: u64,
 ) -> Result<Parts<'a>, Malformed>
     requires { width ≤ 8 }
-    ensures exact { Reads (λ e. e.place) (λ p. (numbers p.width p.count p.table.now, (p.code.now, binary_digits (length p.code.now) (little_number p.mask.now)))) result cursor.new ((lists count width size).read cursor.old) }
+    ensures exact { Reads (λ e. Some e.place) (λ p. (numbers p.width p.count p.table.now, (p.code.now, binary_digits (length p.code.now) (little_number p.mask.now)))) result cursor.new ((lists count width size).read cursor.old) }
     ensures keeps { IfOk result (λ p. Keeps p.count p.width p.table.now p.code.now p.mask.now) }
     ensures same { IfOk result (λ p. (p.count ≡ count) × (p.width ≡ width) × (length p.code.now ≡ size)) }
 {
@@ -64,7 +64,7 @@ fn read_lists<'a>(
 
 // All the fields.
 fn read_parts<'a>(cursor: &mut Cursor<'a>) -> Result<Parts<'a>, Malformed>
-    ensures exact { Reads (λ e. e.place) (λ p. program_of p.count p.width p.table.now p.code.now p.mask.now) result cursor.new (program_blob.read cursor.old) }
+    ensures exact { Reads (λ e. Some e.place) (λ p. program_of p.count p.width p.table.now p.code.now p.mask.now) result cursor.new (program_blob.read cursor.old) }
     ensures keeps { IfOk result (λ p. Keeps p.count p.width p.table.now p.code.now p.mask.now) }
 {
     let count = cursor.natural()?;

@@ -8,7 +8,8 @@ ghost use Rattle.pvm_isa.specs.Opcodes.{op_numbered};
 ghost use Rattle.pvm_isa.specs.Arguments.{IsWindow};
 ghost use Rattle.blob_decode.specs.Refusal.{IsPlaced};
 ghost use Rattle.blob_decode.specs.Kept.{FirstSet, LastSet, AreMarks};
-ghost use Rattle.blob_decode.specs.Program.{program_blob, mask_bit, code_byte, op_begins, op_at, gap, skip, next, is_start, ends_block, ends_before, some_below};
+ghost use Rattle.blob_decode.specs.Program.{program_blob, mask_bit, op_begins, op_at, gap, skip, next, is_start, ends_block, ends_before, some_below};
+ghost use Rattle.pvm_isa.specs.Arguments.{code_byte};
 
 use crate::parts::{parts_of, push_lists};
 use jam_codec::{Malformed, number_of, push_fixed, push_natural};
@@ -222,7 +223,7 @@ impl Program {
     // The opcode of the instruction at the place, where one with a defined opcode begins.
     #[inline]
     fn opcode(&self, place: u64) -> Option<Op>
-        ensures { result ≡ (if op_begins self.now place then op_numbered (code_byte self.now place) else None) }
+        ensures { result ≡ (if op_begins self.now place then op_numbered (code_byte self.now.code place) else None) }
     {
         if place >= self.code.len() as u64 || !self.mask_at(place) {
             return None;

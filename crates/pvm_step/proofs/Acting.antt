@@ -5,7 +5,8 @@ use Rattle.std.specs.Prelude.{◌↔◌, nat_lt, if◌then◌else◌, is_some, u
 use Rattle.std.proofs.lemmas.Bool.Decides.{nat_tests}
 use Rattle.pvm_isa.specs.declared.op.Op.TheVariants.{Trap, Ecalli}
 use Rattle.pvm_isa.specs.Opcodes.{op_numbered}
-use Rattle.blob_decode.specs.Program.{Program, mask_bit, code_byte, op_at, next, skip}
+use Rattle.blob_decode.specs.Program.{Program, mask_bit, op_at, next, skip}
+use Rattle.pvm_isa.specs.Arguments.{code_byte}
 use Rattle.paged_memory.specs.declared.rights.Rights.TheVariants as may
 use Rattle.paged_memory.specs.declared.access.Access.{Access}
 use Rattle.paged_memory.specs.declared.access.StoreRefusal.{StoreRefusal}
@@ -51,7 +52,7 @@ pub op_at-past : (p : Program) (i : ℕ) → length p.code ≤ i → op_at p i �
 unfolding op_at
 op_at-past p i past =
     let out : nat_lt i (length p.code) ≡ false = grind (arith, nat_tests) in
-    ap (λ b. if b && mask_bit p i && is_some (op_numbered (code_byte p i)) then unwrap_or (op_numbered (code_byte p i)) Trap else Trap) out
+    ap (λ b. if b && mask_bit p i && is_some (op_numbered (code_byte p.code i)) then unwrap_or (op_numbered (code_byte p.code i)) Trap else Trap) out
 
 pub trap_panics : (p : Program) (s : State) → outcome Trap p s ≡ stops s Panic
 unfolding after outcome line

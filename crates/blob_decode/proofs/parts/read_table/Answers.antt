@@ -1,4 +1,4 @@
-use Rattle.std.proofs.Common.{◌≡◌, ◌+◌, ◌*◌, ◌/◌, ◌<◌, ap, ◌∙◌, length, arith, refl, ℕ}
+use Rattle.std.proofs.Common.{◌≡◌, ◌+◌, ◌*◌, ◌/◌, ◌<◌, ap, ◌∙◌, length, arith, refl, ℕ, Some}
 use Rattle.blob_decode.proofs.KeptLaws.{Reads-numbers, numbers-missing}
 use Rattle.blob_decode.proofs.parts.read_table.Goals.{in_default-via-in-Some+else-size-left, in_default-via-in_default}
 use Rattle.blob_decode.proofs.parts.read_table.Goals as goal
@@ -6,7 +6,7 @@ use Rattle.blob_decode.proofs.parts.read_table.Goals as goal
 pub returns-in-Some-clause-exact : goal.returns-in-Some-clause-exact
 returns-in-Some-clause-exact c =
     let sized : c.in-Some.size ≡ c.args.count * c.args.width = (c.in-Some.ensures {u = tt}).1 ∙ ap (λ (k : ℕ). c.args.count * k) c.from-width.ensures in
-    Reads-numbers (λ e. e.place) (λ found. found.now) c.bytes.result c.bytes.new.self c.args.cursor.now c.args.width c.args.count c.in-Some.size sized (omega arith) c.bytes.ensures.exact
+    Reads-numbers (λ e. Some e.place) (λ found. found.now) c.bytes.result c.bytes.new.self c.args.cursor.now c.args.width c.args.count c.in-Some.size sized (omega arith) c.bytes.ensures.exact
 
 pub returns-in_default-clause-exact : goal.returns-in_default-clause-exact
 returns-in_default-clause-exact c =
