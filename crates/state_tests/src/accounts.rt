@@ -1,11 +1,16 @@
 //! Footprints, look-ups, copies, changes and orders by hand.
+ghost use Rattle.std.specs.Prelude.{◌≡◌, OnOk};
+ghost use Rattle.std.specs.FinMap as fin;
+
 use jam_accounts::{
     Account, Accounts, Footprint, Lookups, Preimages, State, Storage, fits, threshold,
 };
 use preimage_store::History;
 use std::alloc::{AllocError, Global};
 
-fn put(alloc: Global, storage: &mut Storage, key: &[u8], value: &[u8]) -> Result<(), AllocError> {
+fn put(alloc: Global, storage: &mut Storage, key: &[u8], value: &[u8]) -> Result<(), AllocError>
+    ensures { OnOk result (storage.new ≡ fin.insert storage.old key.now value.now) }
+{
     let key = Vec::from_slice(alloc, key)?;
     let value = Vec::from_slice(alloc, value)?;
     storage.put(key, value)
@@ -30,13 +35,13 @@ fn put_value(
     key: &[u8],
     value: &[u8],
 ) -> Result<(), AllocError> {
-    let key = Vec::from_slice(alloc, key)?;
-    let value = Vec::from_slice(alloc, value)?;
     let mut storage = account.storage.copy()?;
-    storage.put(key.clone()?, value.clone()?)?;
+    put(alloc, &mut storage, key, value)?;
     if !fits(&storage, &account.lookups) {
         return Err(AllocError);
     }
+    let key = Vec::from_slice(alloc, key)?;
+    let value = Vec::from_slice(alloc, value)?;
     account.put_value(key, value)
 }
 
@@ -186,6 +191,9 @@ fn an_account_is_put_in_place_of_another(rt: HostRuntime) -> Result<(), AllocErr
     let mut accounts = Accounts::new(alloc);
     let account = with_preimages(alloc)?;
     accounts.put(6, account)?;
+    if accounts.get(6).is_none() {
+        return Err(AllocError);
+    }
     let before = accounts.replace(6, Account::blank(alloc));
     assert!(rt; sizes(&before) == (1, 2, 3));
     accounts.put(7, before)?;
