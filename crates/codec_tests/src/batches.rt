@@ -72,40 +72,40 @@ fn bytes_that_spell_no_batch(rt: HostRuntime) {
     }
 }
 
-// The empty batch and a schedule: the forms cost 1 to 13, the calls 0x10a to 0x125.
-fn scheduled() -> [u8; 116] {
-    let mut bytes = [1; 116];
-    bytes[..46].copy_from_slice(&EMPTY);
-    for form in 0..13u8 {
-        bytes[usize::from(47 + form)] = form + 1;
-    }
-    for call in 0..28u8 {
-        bytes[usize::from(60 + 2 * call)] = call + 10;
-    }
-    bytes
+// The empty batch and a schedule: the forms cost 1 to 13, and the calls 266 to 293.
+const SCHEDULED: [u8; 116] = [
+    7, 0, 0, 0, 0, 0, 0, 0, 0, 0, 0, 0, 0, 0, 0, 0, 0, 0, 0, 0, 0, 0, 0, 0, 0, 0, 0, 0, 0, 0, 0, 0,
+    0, 0, 0, 0, 0, 0, 0, 0, 0, 0, 0, 0, 0, 0, 1, 1, 2, 3, 4, 5, 6, 7, 8, 9, 10, 11, 12, 13, 10, 1,
+    11, 1, 12, 1, 13, 1, 14, 1, 15, 1, 16, 1, 17, 1, 18, 1, 19, 1, 20, 1, 21, 1, 22, 1, 23, 1, 24,
+    1, 25, 1, 26, 1, 27, 1, 28, 1, 29, 1, 30, 1, 31, 1, 32, 1, 33, 1, 34, 1, 35, 1, 36, 1, 37, 1,
+];
+
+fn wanted_schedule() -> Option<Schedule> {
+    let calls = [
+        266, 267, 268, 269, 270, 271, 272, 273, 274, 275, 276, 277, 278, 279, 280, 281, 282, 283,
+        284, 285, 286, 287, 288, 289, 290, 291, 292, 293,
+    ];
+    Schedule::of([1, 2, 3, 4, 5, 6, 7, 8, 9, 10, 11, 12, 13], calls)
+}
+
+fn schedule_of(alloc: Global, bytes: &[u8]) -> Result<Option<Schedule>, FileRefusal> {
+    let batch = read_batch(alloc, bytes)?;
+    Ok(batch.schedule)
 }
 
 #[test]
 fn a_batch_with_a_schedule(rt: HostRuntime) -> Result<(), FileRefusal> {
-    let bytes = scheduled();
-    let again = written_again(rt.alloc(), &bytes)?;
-    assert!(rt; again.as_slice() == bytes.as_slice());
-    let batch = read_batch(rt.alloc(), &bytes)?;
-    assert_eq!(rt; batch.slot, 7);
-    let calls = [
-        0x10a, 0x10b, 0x10c, 0x10d, 0x10e, 0x10f, 0x110, 0x111, 0x112, 0x113, 0x114, 0x115, 0x116,
-        0x117, 0x118, 0x119, 0x11a, 0x11b, 0x11c, 0x11d, 0x11e, 0x11f, 0x120, 0x121, 0x122, 0x123,
-        0x124, 0x125,
-    ];
-    let wanted = Schedule::of([1, 2, 3, 4, 5, 6, 7, 8, 9, 10, 11, 12, 13], calls);
-    assert!(rt; wanted.is_some());
-    assert!(rt; batch.schedule == wanted);
+    let again = written_again(rt.alloc(), &SCHEDULED)?;
+    assert!(rt; again.as_slice() == SCHEDULED.as_slice());
+    let schedule = schedule_of(rt.alloc(), &SCHEDULED)?;
+    assert!(rt; schedule.is_some());
+    assert!(rt; schedule == wanted_schedule());
     Ok(())
 }
 
 // Why the bytes of that batch with another at one place spell none.
 fn refusal_with_cost(alloc: Global, at: usize, byte: u8) -> Option<FileRefusal> {
-    let mut bytes = scheduled();
+    let mut bytes = SCHEDULED;
     if let Some(place) = bytes.get_mut(at) {
         *place = byte;
     }
@@ -114,43 +114,42 @@ fn refusal_with_cost(alloc: Global, at: usize, byte: u8) -> Option<FileRefusal> 
 
 #[test]
 fn costs_that_do_not_spell(rt: HostRuntime) {
-    // The tag; a form's cost of 0; a call's of 9 + 256 and of 9.
-    let table: [(usize, u8, Option<u64>); 6] = [
-        (46, 0, Some(46)),
-        (46, 2, Some(46)),
-        (47, 0, Some(47)),
-        (59, 0, Some(59)),
-        (60, 9, None),
-        (115, 0, None),
-    ];
-    for (at, byte, wanted) in table {
+    // The tag; a form's cost of 0; a call's of 9, but not of 265 or 37.
+    let table = [(46, 0), (46, 2), (47, 0), (59, 0)];
+    for (at, byte) in table {
         let refusal = refusal_with_cost(rt.alloc(), at, byte);
-        let wanted = wanted.map(|place| FileRefusal::Malformed { place });
+        let wanted = Some(FileRefusal::Malformed { place: at as u64 });
         assert!(rt; refusal == wanted, "at {at}");
     }
-    let mut nine = scheduled();
+    assert!(rt; refusal_with_cost(rt.alloc(), 60, 9).is_none());
+    assert!(rt; refusal_with_cost(rt.alloc(), 115, 0).is_none());
+    let mut nine = SCHEDULED;
     nine[114] = 9;
     nine[115] = 0;
     let refusal = refusal_of(rt.alloc(), &nine);
     assert!(rt; refusal == Some(FileRefusal::Malformed { place: 114 }));
 }
 
-// A schedule has two prefixes that spell a batch: without it, and whole. Bytes behind it spell none.
+// Where the refusal of the first bytes of a batch with a schedule is.
+fn place_within_schedule(length: usize) -> Option<FileRefusal> {
+    let place = match length {
+        46 | 116 => return None,
+        60.. => length as u64 / 2 * 2,
+        _ => length as u64,
+    };
+    Some(FileRefusal::Malformed { place })
+}
+
 #[test]
 fn a_schedule_is_there_whole_or_not_at_all(rt: HostRuntime) {
-    let mut longer = [0; 117];
-    longer[..116].copy_from_slice(&scheduled());
-    for length in 46..118usize {
-        let refusal = refusal_of(rt.alloc(), &longer[..length]);
-        let wanted = match length {
-            46 | 116 => None,
-            47..=59 => Some(length as u64),
-            60..=115 => Some(length as u64 / 2 * 2),
-            _ => Some(116),
-        };
-        let wanted = wanted.map(|place| FileRefusal::Malformed { place });
-        assert!(rt; refusal == wanted, "of {length}");
+    for length in 46..117usize {
+        let refusal = refusal_of(rt.alloc(), &SCHEDULED[..length]);
+        assert!(rt; refusal == place_within_schedule(length), "of {length}");
     }
+    let mut longer = [0; 117];
+    longer[..116].copy_from_slice(&SCHEDULED);
+    let refusal = refusal_of(rt.alloc(), &longer);
+    assert!(rt; refusal == Some(FileRefusal::Malformed { place: 116 }));
 }
 
 #[test]

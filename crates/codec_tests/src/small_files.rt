@@ -62,48 +62,40 @@ fn files_of_one_field(rt: HostRuntime) -> Result<(), FileRefusal> {
     Ok(())
 }
 
-#[test]
-fn what_is_read_is_written_again(rt: HostRuntime) -> Result<(), FileRefusal> {
-    let alloc = rt.alloc();
-    let byte = again::<u8>(alloc, &[0x34])?;
-    assert!(rt; byte.as_slice() == [0x34].as_slice());
-    let number = again::<u16>(alloc, &[0x34, 0x12])?;
-    assert!(rt; number.as_slice() == [0x34, 0x12].as_slice());
-    let word = again::<u32>(alloc, &[0x78, 0x56, 0x34, 0x12])?;
-    assert!(rt; word.as_slice() == [0x78, 0x56, 0x34, 0x12].as_slice());
-    let long_word = again::<u64>(alloc, &[1, 2, 3, 4, 5, 6, 7, 8])?;
-    assert!(rt; long_word.as_slice() == [1, 2, 3, 4, 5, 6, 7, 8].as_slice());
-    let hash = again::<[u8; 32]>(alloc, &COUNTED)?;
-    assert!(rt; hash.as_slice() == COUNTED.as_slice());
-    let blob = again::<Blob>(alloc, &[0x02, 0x07, 0x08])?;
-    assert!(rt; blob.as_slice() == [0x02, 0x07, 0x08].as_slice());
-    let some = again::<Option<u8>>(alloc, &[0x01, 0x05])?;
-    assert!(rt; some.as_slice() == [0x01, 0x05].as_slice());
-    let none = again::<Option<u8>>(alloc, &[0x00])?;
-    assert!(rt; none.as_slice() == [0x00].as_slice());
-    Ok(())
+fn is_again<T: Spell>(alloc: Global, bytes: &[u8]) -> bool {
+    match again::<T>(alloc, bytes) {
+        Ok(again) => again.as_slice() == bytes,
+        Err(_) => false,
+    }
 }
 
-// Byte i is i modulo 251, behind the length.
+#[test]
+fn what_is_read_is_written_again(rt: HostRuntime) {
+    let alloc = rt.alloc();
+    assert!(rt; is_again::<u8>(alloc, &[0x34]));
+    assert!(rt; is_again::<u16>(alloc, &[0x34, 0x12]));
+    assert!(rt; is_again::<u32>(alloc, &[0x78, 0x56, 0x34, 0x12]));
+    assert!(rt; is_again::<u64>(alloc, &[1, 2, 3, 4, 5, 6, 7, 8]));
+    assert!(rt; is_again::<[u8; 32]>(alloc, &COUNTED));
+    assert!(rt; is_again::<Blob>(alloc, &[0x02, 0x07, 0x08]));
+    assert!(rt; is_again::<Option<u8>>(alloc, &[0x01, 0x05]));
+    assert!(rt; is_again::<Option<u8>>(alloc, &[0x00]));
+}
+
+// The length 5,000 is 0x1388, whose high part is in the first byte; byte i of the body is i modulo 251.
 fn long_blob(alloc: Global) -> Result<Vec<u8>, AllocError> {
-    let mut bytes = vec![in alloc; 0u8; 5002]?;
-    for (i, byte) in bytes.iter_mut().enumerate() {
-        *byte = (i % 251) as u8;
-    }
-    if let [first, second, ..] = bytes.as_mut_slice() {
-        *first = 0x93;
-        *second = 0x88;
+    let mut bytes = Vec::from_slice(alloc, &[0x93, 0x88])?;
+    for i in 0..5000u32 {
+        bytes.push((i % 251) as u8)?;
     }
     Ok(bytes)
 }
 
-// The length 5,000 is 0x1388, whose high part is in the first byte.
 #[test]
-fn a_long_blob_is_written_again(rt: HostRuntime) -> Result<(), FileRefusal> {
+fn a_long_blob_is_written_again(rt: HostRuntime) -> Result<(), AllocError> {
     let bytes = long_blob(rt.alloc())?;
-    let again = again::<Blob>(rt.alloc(), &bytes)?;
-    assert_eq!(rt; again.len(), 5002);
-    assert!(rt; again.as_slice() == bytes.as_slice());
+    assert_eq!(rt; bytes.len(), 5002);
+    assert!(rt; is_again::<Blob>(rt.alloc(), &bytes));
     Ok(())
 }
 
