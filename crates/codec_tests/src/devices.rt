@@ -197,3 +197,26 @@ fn sinks_keep_what_they_take(rt: HostRuntime) -> Result<(), Fail> {
     holds(&rt, failing.bytes(), b"abc");
     Ok(())
 }
+
+fn text_of_outside(alloc: Global, refusal: OutsideError) -> Result<String, AllocError> {
+    format!(in alloc; "{refusal}")
+}
+
+fn text_of_read(alloc: Global, refusal: ReadRefusal) -> Result<String, AllocError> {
+    format!(in alloc; "{refusal}")
+}
+
+#[test]
+fn refusals_of_devices_as_text(rt: HostRuntime) -> Result<(), AllocError> {
+    let failed = text_of_outside(rt.alloc(), OutsideError::Failed)?;
+    assert!(rt; failed.as_str() == "the device failed");
+    let memory = text_of_outside(rt.alloc(), OutsideError::NoMemory)?;
+    assert!(rt; memory.as_str() == "out of memory");
+    let fault = text_of_read(rt.alloc(), ReadRefusal::ReadFault)?;
+    assert!(rt; fault.as_str() == "a read failed");
+    let long = text_of_read(rt.alloc(), ReadRefusal::TooLong)?;
+    assert!(rt; long.as_str() == "the file is too long");
+    let memory = text_of_read(rt.alloc(), ReadRefusal::NoMemory)?;
+    assert!(rt; memory.as_str() == "out of memory");
+    Ok(())
+}
