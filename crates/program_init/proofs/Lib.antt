@@ -1,0 +1,3 @@
+pub mod AreaRights
+pub mod OuterFields
+pub mod Programs
