@@ -15,7 +15,7 @@ use Rattle.jam_cli.specs.declared.refusal.Refusal.{Refusal}
 use Rattle.jam_cli.specs.declared.refusal.Refusal.TheVariants.{NoMemory, BadWords, ReadFault, TooLong, NotSpelled, BadLine, SinkFault, StoreFault}
 use Rattle.jam_cli.specs.Table.{Command, Asks, Input, inputs, stored_name, NamesNone}
 use Rattle.jam_cli.specs.Command.{File, held, kinds, Values, SpellAll, Product, Work, made, bad_line, work}
-use Rattle.jam_cli.specs.Ending.{Call, AllRead, FirstTooLong, FirstRefused, Gives, Works, Produces, PrintedNothing, PrintedAll, PrintedPrefix, KeepsFiles, StoredAll, with_entry, IsReadFault, IsTooLong, IsRefused, IsBadLine, DoneMeans, BadWordsMeans, BadWordsComes, ReadFaultMeans, TooLongMeans, TooLongComes, RefusedMeans, RefusedComes, BadLineMeans, BadLineComes, SinkFaultMeans, StoreFaultMeans, NoMemoryMeans, SilentMeans, OthersKeepFiles, AllKept, InputsKept, CountsFaults, KeepsNames, CountsStores, ServedIsDone}
+use Rattle.jam_cli.specs.Ending.{Call, AllRead, FirstTooLong, FirstRefused, FilesSpell, Works, Produces, PrintedNothing, PrintedAll, PrintedPrefix, KeepsFiles, StoredAll, with_entry, IsReadFault, IsTooLong, IsRefused, IsBadLine, DoneMeans, BadWordsMeans, BadWordsComes, ReadFaultMeans, TooLongMeans, TooLongComes, RefusedMeans, RefusedComes, BadLineMeans, BadLineComes, SinkFaultMeans, StoreFaultMeans, NoMemoryMeans, SilentMeans, OthersKeepFiles, AllKept, InputsKept, CountsFaults, KeepsNames, CountsStores, ServedIsDone}
 use Rattle.jam_cli.specs.Laws.{SpellOnce}
 use Rattle.jam_cli.specs.Parts.{Makes, Untouched, PrintsAll, Ends, CallEnds, status_of, entry_stored, name_in}
 use Rattle.jam_cli.proofs.Once.{once, refuse_once}
@@ -60,14 +60,14 @@ one_refused (f ∷ fs) v w p q a b = elim a [
 its_own : (P : Command → Type 0) (c d : Command) (words : Words) → Asks c words → Asks d words → P c → P d
 its_own P c d words p q h = subst P (once c d words p q) h
 
-gives-not_long : (files : Files) (c d : Command) (words : Words) (word : ℕ) → Asks c words → Asks d words → (values : Values (kinds (inputs c))) → Gives files c values → FirstTooLong (held files (inputs d)) word → ⊥
+gives-not_long : (files : Files) (c d : Command) (words : Words) (word : ℕ) → Asks c words → Asks d words → (values : Values (kinds (inputs c))) → FilesSpell files c values → FirstTooLong (held files (inputs d)) word → ⊥
 gives-not_long files c d words word p q values g l = read-not_long (held files (inputs d)) word (its_own (λ e. AllRead (held files (inputs e))) c d words p q g.0) l
 
 spells-not_refused : (files : Files) (is : List Input) (values : Values (kinds is)) (word place : ℕ) → SpellAll (kinds is) values (held files is) → FirstRefused (held files is) word place → ⊥
 spells-not_refused files [] values word place s r = r
 spells-not_refused files (i ∷ is) values word place s r = elim r [ inl here ↦ here.1.1 (values.0, s.0) | inr later ↦ spells-not_refused files is values.1 word place s.1 later.1 ]
 
-gives-not_refused : (files : Files) (c d : Command) (words : Words) (word place : ℕ) → Asks c words → Asks d words → (values : Values (kinds (inputs c))) → Gives files c values → FirstRefused (held files (inputs d)) word place → ⊥
+gives-not_refused : (files : Files) (c d : Command) (words : Words) (word place : ℕ) → Asks c words → Asks d words → (values : Values (kinds (inputs c))) → FilesSpell files c values → FirstRefused (held files (inputs d)) word place → ⊥
 gives-not_refused files c d words word place p q values g r =
     spells-not_refused files (inputs c) values word place g.1 (its_own (λ e. FirstRefused (held files (inputs e)) word place) d c words q p r)
 

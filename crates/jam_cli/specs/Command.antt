@@ -10,7 +10,7 @@ use Rattle.pvm_invoke.specs.Outcome.{Outcome}
 use Rattle.pvm_asm.specs.declared.kind.AsmKind.{AsmKind}
 use Rattle.trace_text.specs.declared.line.Line.{Line}
 use Rattle.trace_text.specs.declared.line.Line.TheVariants as of
-use Rattle.trace_text.specs.Transcript.{text_of, block}
+use Rattle.trace_text.specs.Transcript.{text_of, block, state_lines}
 use Rattle.blake2b_core.specs.Blake2b.{digest}
 use Rattle.jam_accounts.specs.Accounts as services
 use Rattle.state_file.specs.StateFile.{state_format}
@@ -104,6 +104,10 @@ run_lines gas m (Some exit) = block (outcome_by gas m exit)
 abbrev pub run_work : blob.Program → ℕ → Work
 run_work program gas = let m : Moment = answer program (raw 0 gas) in prints (run_lines gas m m.exit)
 
+-- show: the lines of the state
+abbrev pub show_work : services.State → Work
+show_work state = prints (state_lines state)
+
 -- hash: the digest of the file
 abbrev pub hash_work : List ℕ → Work
 hash_work bytes = prints (of.Digest (digest bytes) ∷ [])
@@ -123,6 +127,7 @@ accumulate_work prior batch name =
 -- the work of a verb
 abbrev pub work_of : (verb : Verb) (arguments : Arguments (row verb).parts) → Values (kinds (inputs (command verb arguments))) → Work
 work_of the.Run arguments values = run_work values.0 arguments.1.0
+work_of the.Show arguments values = show_work values.0
 work_of the.Hash arguments values = hash_work values.0
 work_of the.Accumulate arguments values = accumulate_work values.0 values.1.0 arguments.1.1.0
 

@@ -55,12 +55,12 @@ IsInputWord [] word = ⊥
 IsInputWord (i ∷ is) word = (i.word ≡ word) ⊎ IsInputWord is word
 
 -- the files of a command were read, and spell these values
-abbrev pub Gives : Files → (c : Command) → Values (kinds (inputs c)) → Type 0
-Gives files c values = AllRead (held files (inputs c)) × SpellAll (kinds (inputs c)) values (held files (inputs c))
+abbrev pub FilesSpell : Files → (c : Command) → Values (kinds (inputs c)) → Type 0
+FilesSpell files c values = AllRead (held files (inputs c)) × SpellAll (kinds (inputs c)) values (held files (inputs c))
 
 -- the command's work on the files is this
 abbrev pub Works : Files → Command → Work → Type 0
-Works files c w = (values : Values (kinds (inputs c))) × Gives files c values × (work c values ≡ w)
+Works files c w = (values : Values (kinds (inputs c))) × FilesSpell files c values × (work c values ≡ w)
 
 abbrev pub Produces : Files → Command → Product → Type 0
 Produces files c p = Works files c (made p)
@@ -252,7 +252,7 @@ pub record IsServed (words : List (List ℕ)) (k : Call) : Type 0 where
   pub command : Command
   pub asks : Asks command words
   pub values : Values (kinds (inputs command))
-  pub gives : Gives files command values
+  pub gives : FilesSpell files command values
   pub product : Product
   pub makes : work command values ≡ made product
   pub reads : Raised k.vault.read_faults k.vault_after.read_faults → ⊥

@@ -35,19 +35,20 @@ use Rattle.jam_cli.specs.Ending.{Call, limit, AllRead, FirstTooLong, FirstRefuse
 -- what a command of the code stands for
 abbrev pub asked : parsed.Command → Command
 asked (of.Run blob gas) = command the.Run (blob.now, (gas.value, tt))
+asked (of.Show state) = command the.Show (state.now, tt)
 asked (of.Hash file) = command the.Hash (file.now, tt)
 asked (of.Accumulate state batch posterior slice) = command the.Accumulate (state.now, (batch.now, (posterior.now, (slice, tt))))
 
 -- the inputs that the code holds
-abbrev pub plain : code_input.Input → Input
-plain i = record { word = i.word; name = i.name.now; kind = i.kind }
+abbrev pub plain_input : code_input.Input → Input
+plain_input i = record { word = i.word; name = i.name.now; kind = i.kind }
 
-abbrev pub plains : List code_input.Input → List Input
-plains is = map plain is
+abbrev pub plain_inputs : List code_input.Input → List Input
+plain_inputs is = map plain_input is
 
 -- the files that a command of the code reads, and the name that it stores under, are the table's
 abbrev pub IsLine : parsed_line.Line → Type 0
-IsLine l = (plains l.inputs.items ≡ inputs (asked l.command)) × (option_map (λ name. name.now) l.stored ≡ stored_name (asked l.command))
+IsLine l = (plain_inputs l.inputs.items ≡ inputs (asked l.command)) × (option_map (λ name. name.now) l.stored ≡ stored_name (asked l.command))
 
 -- what the words after a verb are parsed as
 abbrev pub Parses : Verb → List (List ℕ) → Result parsed_line.Line Misfit → Type 0
@@ -68,16 +69,16 @@ KeepsDigest (kept.Whole v) bytes = ⊥
 KeepsDigest (kept.Digest d) bytes = d ≡ digest bytes
 
 -- a file of a kind is kept so
-abbrev pub Keeps : Kind → kept_file.Kept → List ℕ → Type 0
-Keeps Bytes k bytes = KeepsDigest k bytes
-Keeps Program k bytes = KeepsWhole k bytes
-Keeps State k bytes = KeepsWhole k bytes
-Keeps Batch k bytes = KeepsWhole k bytes
+abbrev pub IsKept : Kind → kept_file.Kept → List ℕ → Type 0
+IsKept Bytes k bytes = KeepsDigest k bytes
+IsKept Program k bytes = KeepsWhole k bytes
+IsKept State k bytes = KeepsWhole k bytes
+IsKept Batch k bytes = KeepsWhole k bytes
 
 -- the code holds this file
 pub record IsFile (f : code_file.File) (g : File) : Type 0 where
-  pub input : g.input ≡ plain f.input
-  pub kept : Keeps f.input.kind f.kept g.bytes
+  pub input : g.input ≡ plain_input f.input
+  pub kept : IsKept f.input.kind f.kept g.bytes
 
 -- it holds these, one after another
 abbrev pub AreFiles : List code_file.File → List File → Type 0
@@ -95,7 +96,7 @@ abbrev pub OfFiles : List code_file.File → (List File → Type 0) → Type 0
 OfFiles fs P = (gs : List File) → AreFiles fs gs → P gs
 
 abbrev pub inputs_in : List code_file.File → List Input
-inputs_in fs = map (λ (f : code_file.File). plain f.input) fs
+inputs_in fs = map (λ (f : code_file.File). plain_input f.input) fs
 
 abbrev pub inputs_of : List File → List Input
 inputs_of fs = map (λ (f : File). f.input) fs
@@ -105,9 +106,9 @@ abbrev pub first_bytes : List File → List ℕ
 first_bytes [] = []
 first_bytes (f ∷ fs) = f.bytes
 
-abbrev pub later : List File → List File
-later [] = []
-later (f ∷ fs) = fs
+abbrev pub later_files : List File → List File
+later_files [] = []
+later_files (f ∷ fs) = fs
 
 -- where the files are told, these are those of inputs, and hold no more than is read
 abbrev pub AreHeld : Option Files → List Input → List File → Type 0
@@ -151,11 +152,11 @@ NotAllSpelled refusal fs = ⊥
 
 -- ---- The work
 
-abbrev pub entry_of : Option code_entry.Entry → Option (List ℕ × List ℕ)
-entry_of = option_map (λ (e : code_entry.Entry). (e.name.now, e.bytes.items))
+abbrev pub plain_entry : Option code_entry.Entry → Option (List ℕ × List ℕ)
+plain_entry = option_map (λ (e : code_entry.Entry). (e.name.now, e.bytes.items))
 
 abbrev pub plain_product : code_work.Work → Product
-plain_product w = record { printed = w.text.items; entry = entry_of w.entry }
+plain_product w = record { printed = w.text.items; entry = plain_entry w.entry }
 
 abbrev pub plain_work : code_work.Work → Work
 plain_work w = made (plain_product w)

@@ -24,11 +24,12 @@ pub record Row : Type 0 where
 -- the table; the slice of accumulate is 0 for now
 abbrev pub row : Verb → Row
 row the.Run = record { name = codes "run"; parts = reads Program ∷ (number 0 (2 ^ 63) ∷ []) }
+row the.Show = record { name = codes "show"; parts = reads State ∷ [] }
 row the.Hash = record { name = codes "hash"; parts = reads Bytes ∷ [] }
 row the.Accumulate = record { name = codes "accumulate"; parts = reads State ∷ (reads Batch ∷ (stores ∷ (number 0 1 ∷ []))) }
 
 abbrev pub verbs : List Verb
-verbs = the.Run ∷ (the.Hash ∷ (the.Accumulate ∷ []))
+verbs = the.Run ∷ (the.Show ∷ (the.Hash ∷ (the.Accumulate ∷ [])))
 
 -- the verb with a name, if there is one
 unfoldable pub verb_named : List ℕ → Option Verb

@@ -1,7 +1,7 @@
 // How what a command makes is handed out.
 ghost use Rattle.std.specs.Prelude.{◌≡◌, OnOk, IfErr, Some};
 ghost use Rattle.jam_outside.specs.Causes.{Appends};
-ghost use Rattle.jam_cli.specs.Parts.{entry_of, entry_stored, NotPrinted, NotStored};
+ghost use Rattle.jam_cli.specs.Parts.{plain_entry, entry_stored, NotPrinted, NotStored};
 
 use crate::refusal::Refusal;
 use crate::work::Entry;
@@ -33,8 +33,8 @@ fn store_entry<V: Vault>(vault: &mut V, entry: &Entry<'_>) -> Result<(), Refusal
 
 /// Stores an entry, if there is one.
 pub fn store<V: Vault>(vault: &mut V, entry: &Option<Entry<'_>>) -> Result<(), Refusal>
-    ensures all { OnOk result (V.state vault.new ≡ entry_stored (entry_of entry.now) (V.state vault.old)) }
-    ensures refused { IfErr result (λ refusal. NotStored refusal (V.state vault.old) (V.state vault.new) (entry_of entry.now)) }
+    ensures all { OnOk result (V.state vault.new ≡ entry_stored (plain_entry entry.now) (V.state vault.old)) }
+    ensures refused { IfErr result (λ refusal. NotStored refusal (V.state vault.old) (V.state vault.new) (plain_entry entry.now)) }
 {
     match entry {
         None => Ok(()),

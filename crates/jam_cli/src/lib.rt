@@ -11,6 +11,7 @@ mod number;
 mod reads;
 mod refusal;
 mod run;
+mod show;
 mod status;
 mod top;
 mod values;

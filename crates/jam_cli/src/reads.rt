@@ -2,7 +2,7 @@
 ghost use Rattle.std.specs.Prelude.{◌≡◌, ◌≢◌, ◌⊎◌, OnOk, IfOk, IfErr, IfSome, IsTrue, ◌↔◌};
 ghost use Rattle.jam_cli.specs.Table.{NamesNone};
 ghost use Rattle.jam_cli.specs.Ending.{FirstNamed};
-ghost use Rattle.jam_cli.specs.Parts.{plain, plains, inputs_in, AreKept, AreRead, NotRead, EndOf};
+ghost use Rattle.jam_cli.specs.Parts.{plain_input, plain_inputs, inputs_in, AreKept, AreRead, NotRead, EndOf};
 
 use crate::kept::{Kept, read_kept};
 use crate::refusal::Refusal;
@@ -33,7 +33,7 @@ fn is_name(input: &Input<'_>, name: &str) -> bool
 
 // The first word that has the name; where none has it, the other.
 fn first_word(inputs: &[Input<'_>], name: &str, otherwise: u8) -> u8
-    ensures { FirstNamed name.now (plains inputs.now) result ⊎ NamesNone (plains inputs.now) name.now }
+    ensures { FirstNamed name.now (plain_inputs inputs.now) result ⊎ NamesNone (plain_inputs inputs.now) name.now }
 {
     for input in inputs {
         if is_name(input, name) {
@@ -44,7 +44,7 @@ fn first_word(inputs: &[Input<'_>], name: &str, otherwise: u8) -> u8
 }
 
 fn end_of(inputs: &[Input<'_>], input: &Input<'_>, refusal: ReadRefusal) -> Refusal
-    ensures { EndOf refusal result (plains inputs.now) (plain input.now) }
+    ensures { EndOf refusal result (plain_inputs inputs.now) (plain_input input.now) }
 {
     match refusal {
         ReadRefusal::ReadFault => { Refusal::ReadFault(first_word(inputs, input.name, input.word)) }
@@ -60,11 +60,11 @@ pub fn read_inputs<'a, V: Vault>(
     vault: &mut V,
     inputs: &[Input<'a>],
 ) -> Result<Vec<File<'a>>, Refusal>
-    ensures inputs { IfOk result (λ all. inputs_in all.items ≡ plains inputs.now) }
-    ensures read { IfOk result (λ all. AreRead (V.state vault.old).files (plains inputs.now) all.items) }
+    ensures inputs { IfOk result (λ all. inputs_in all.items ≡ plain_inputs inputs.now) }
+    ensures read { IfOk result (λ all. AreRead (V.state vault.old).files (plain_inputs inputs.now) all.items) }
     ensures keeps { IfOk result (λ all. AreKept all.items) }
     ensures kept { OnOk result (V.state vault.new ≡ V.state vault.old) }
-    ensures not_read { IfErr result (λ refusal. NotRead refusal (plains inputs.now) (V.state vault.old) (V.state vault.new)) }
+    ensures not_read { IfErr result (λ refusal. NotRead refusal (plain_inputs inputs.now) (V.state vault.old) (V.state vault.new)) }
 {
     let mut all = Vec::new(alloc);
     for input in inputs {

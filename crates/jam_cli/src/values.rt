@@ -5,7 +5,7 @@ ghost use Rattle.blake2b_core.specs.Blake2b as blake2b;
 ghost use Rattle.jam_cli.specs.declared.verb.Kind.{Kind};
 ghost use Rattle.jam_cli.specs.declared.verb.Kind.TheVariants.{Program, Bytes, State, Batch};
 ghost use Rattle.jam_cli.specs.Command.{File, ValueOf, format_of, kinds, Values, SpellAll};
-ghost use Rattle.jam_cli.specs.Parts.{inputs_in, first_bytes, later, Keeps, KeepsWhole, AreKept, OfFiles, IsNone, refused_as, NotAllSpelled};
+ghost use Rattle.jam_cli.specs.Parts.{inputs_in, first_bytes, later_files, IsKept, KeepsWhole, AreKept, OfFiles, IsNone, refused_as, NotAllSpelled};
 
 use crate::kept::Kept;
 use crate::reads::File;
@@ -85,9 +85,9 @@ pub trait Content: Drop {
 
     /// What stands for the value of a file that is kept so.
     fn decode(alloc: Global, kept: &Kept) -> Result<Self, FileRefusal>
-        requires { (bytes : List ℕ) × Keeps kind kept.now bytes }
-        ensures spelled { IfOk result (λ x. (bytes : List ℕ) → Keeps kind kept.now bytes → Tells x bytes × Spells (format_of kind) (value x bytes) bytes) }
-        ensures refused { IfErr result (λ e. (bytes : List ℕ) → Keeps kind kept.now bytes → IsNone kind bytes e) };
+        requires { (bytes : List ℕ) × IsKept kind kept.now bytes }
+        ensures spelled { IfOk result (λ x. (bytes : List ℕ) → IsKept kind kept.now bytes → Tells x bytes × Spells (format_of kind) (value x bytes) bytes) }
+        ensures refused { IfErr result (λ e. (bytes : List ℕ) → IsKept kind kept.now bytes → IsNone kind bytes e) };
 }
 
 /// A value of a file that is kept as a whole.
@@ -178,9 +178,9 @@ impl Contents for () {
 impl<T: Content, R: Contents> Contents for (T, R) {
     ghost all_kinds = { T.kind ∷ R.all_kinds };
 
-    ghost values = { λ all fs. (T.value all.0 (first_bytes fs), R.values all.1 (later fs)) };
+    ghost values = { λ all fs. (T.value all.0 (first_bytes fs), R.values all.1 (later_files fs)) };
 
-    ghost Tell = { λ all fs. T.Tells all.0 (first_bytes fs) × R.Tell all.1 (later fs) };
+    ghost Tell = { λ all fs. T.Tells all.0 (first_bytes fs) × R.Tell all.1 (later_files fs) };
 
     fn decode_all(alloc: Global, files: &[File<'_>]) -> Result<(T, R), Refusal> {
         let [first, rest @ ..] = files else {

@@ -19,6 +19,7 @@ pub enum Kind {
 #[derive(Clone, Copy)]
 pub enum Verb {
     Run,
+    Show,
     Hash,
     Accumulate,
 }
@@ -30,6 +31,7 @@ pub fn verb_of(word: &str) -> Option<Verb>
 {
     match word {
         "run" => Some(Verb::Run),
+        "show" => Some(Verb::Show),
         "hash" => Some(Verb::Hash),
         "accumulate" => Some(Verb::Accumulate),
         _ => None,

@@ -19,6 +19,8 @@ pub enum Command<'a> {
         blob: &'a str,
         gas: Small,
     },
+    /// `show STATE`: what a state holds.
+    Show(&'a str),
     /// `hash FILE`: the digest of the bytes of a file.
     Hash(&'a str),
     /// `accumulate STATE BATCH POSTERIOR SLICE`: stores the state that a batch makes of a state.
@@ -71,6 +73,20 @@ fn run_of<'a>(alloc: Global, words: &'a [String]) -> Result<Line<'a>, Misfit>
     })
 }
 
+fn show_of<'a>(alloc: Global, words: &'a [String]) -> Result<Line<'a>, Misfit>
+    ensures { Parses the.Show (texts words.now) result }
+{
+    let [state] = words else {
+        return Err(Misfit::OtherWords);
+    };
+    let state = name(state)?;
+    Ok(Line {
+        command: Command::Show(state),
+        inputs: vec![in alloc; input(1, state, Kind::State)]?,
+        stored: None,
+    })
+}
+
 fn hash_of<'a>(alloc: Global, words: &'a [String]) -> Result<Line<'a>, Misfit>
     ensures { Parses the.Hash (texts words.now) result }
 {
@@ -115,6 +131,7 @@ fn parse<'a>(alloc: Global, verb: Verb, words: &'a [String]) -> Result<Line<'a>,
 {
     match verb {
         Verb::Run => run_of(alloc, words),
+        Verb::Show => show_of(alloc, words),
         Verb::Hash => hash_of(alloc, words),
         Verb::Accumulate => accumulate_of(alloc, words),
     }

@@ -14,6 +14,7 @@ use crate::number::Small;
 use crate::reads::File;
 use crate::refusal::Refusal;
 use crate::run::run;
+use crate::show::show;
 use crate::values::{Contents, Digest, Whole};
 use crate::words::Command;
 use std::alloc::Global;
@@ -44,6 +45,15 @@ fn run_on<'a>(
 {
     let (Whole(program), ()) = Contents::decode_all(alloc, files)?;
     Ok(run(alloc, program, gas)?)
+}
+
+fn show_on<'a>(alloc: Global, state: &'a str, files: &[File<'_>]) -> Result<Work<'a>, Refusal>
+    requires kinds { kinds (inputs_in files.now) ≡ kind.State ∷ [] }
+    requires kept { AreKept files.now }
+    ensures { WorkedOn (command the.Show (state.now, tt)) files.now result }
+{
+    let (Whole(state), ()) = Contents::decode_all(alloc, files)?;
+    Ok(show(alloc, &state)?)
 }
 
 fn hash_on<'a>(alloc: Global, file: &'a str, files: &[File<'_>]) -> Result<Work<'a>, Refusal>
@@ -84,6 +94,7 @@ pub fn work_of<'a>(
 {
     match command {
         Command::Run { blob, gas } => run_on(alloc, *blob, *gas, files),
+        Command::Show(state) => show_on(alloc, *state, files),
         Command::Hash(file) => hash_on(alloc, *file, files),
         Command::Accumulate {
             state,

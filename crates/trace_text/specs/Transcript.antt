@@ -1,11 +1,14 @@
 -- The lines that are printed. The words of a line have a blank between them, and a line feed ends it. Numbers are decimal, bytes
 -- are lower-case hexadecimal.
-use Rattle.std.specs.Prelude.{ℕ, ◌+◌, List, [], ◌∷◌, ◌++◌, length, take, codes, decimal, Option, Some, None}
+use Rattle.std.specs.Prelude.{ℕ, ◌+◌, List, [], ◌∷◌, ◌++◌, length, map, take, codes, decimal, Option, Some, None}
+use Rattle.std.specs.FinMap as fin
 use Rattle.hex.specs.Hex.{encode_lower}
 use Rattle.pvm_isa.specs.Opcodes.{name_of}
 use Rattle.pvm_step.specs.declared.exit.Exit.{Exit}
 use Rattle.pvm_step.specs.declared.exit.Exit.TheVariants as ended
 use Rattle.pvm_invoke.specs.Outcome.{Outcome}
+use Rattle.jam_accounts.specs.Accounts.{Account, State}
+use Rattle.jam_accounts.specs.Footprint.{footprint_of, threshold_of}
 use Rattle.trace_text.specs.declared.line.Line.{Line}
 use Rattle.trace_text.specs.declared.line.Line.TheVariants as of
 
@@ -102,3 +105,14 @@ register_lines k (value ∷ values) = of.Register k value ∷ register_lines (k 
 -- the block of an outcome
 unfoldable pub block : Outcome → List Line
 block o = of.Exit o.exit ∷ (of.Pc o.pc ∷ (of.Gas o.left ∷ (register_lines 0 o.registers ++ (of.Output (length o.output) (take 64 o.output) ∷ []))))
+
+-- the line of an account under its service's number
+abbrev pub account_shown : ℕ × Account → Line
+account_shown entry =
+    let account : Account = entry.1 in
+    of.Account entry.0 account.code_hash account.balance (footprint_of account).items (footprint_of account).octets (threshold_of (footprint_of account) account.gratis)
+    (fin.len account.storage) (fin.len account.preimages) (fin.len account.lookups) account.gratis account.created
+
+-- the lines of a state, with one for each account in the order of their numbers
+unfoldable pub state_lines : State → List Line
+state_lines s = of.Version s.version ∷ (of.Slot s.slot ∷ (of.Entropy s.entropy ∷ (of.Accounts (fin.len s.accounts) ∷ map account_shown (fin.entries s.accounts))))

@@ -1,7 +1,7 @@
 use Rattle.std.proofs.Common.{◌∙◌, ap, sym, subst}
 use Rattle.std.proofs.lemmas.Result.{err_from_is_err_and}
 use Rattle.jam_outside.specs.Causes.{Appends}
-use Rattle.jam_cli.specs.Parts.{asked, plains, plain_product, AreFiles, AreKept, NotPrinted, entry_stored}
+use Rattle.jam_cli.specs.Parts.{asked, plain_inputs, plain_product, AreFiles, AreKept, NotPrinted, entry_stored}
 use Rattle.jam_cli.proofs.Carried.{were_read, spell_ends, makes, print_ends, store_ends}
 use Rattle.jam_cli.proofs.top.carry_out.Goals as goal
 
@@ -11,7 +11,7 @@ work_of-requires-clause-kept g c = subst AreKept (sym c.deref-2.ensures.value) c
 pub returns-in_err-work : goal.returns-in_err-work
 returns-in_err-work g c =
     let refused = err_from_is_err_and c.from_residual-in_err-work.result c.from_residual-in_err-work.ensures.1 in
-    let is = ap plains c.deref.ensures.value ∙ c.requires.0 in
+    let is = ap plain_inputs c.deref.ensures.value ∙ c.requires.0 in
     let read = c.in_ok-files.ensures.read in
     let are = subst (λ fs. AreFiles fs read.files) (sym c.deref-2.ensures.value) read.are in
     rw (refused.1, refused.2) (spell_ends (asked c.args.line.now.command) c.in_err-work.field-0.0 (g.V.Vault.state c.args.vault.now) _ _ read.files
@@ -20,7 +20,7 @@ returns-in_err-work g c =
 pub returns-in_err-print : goal.returns-in_err-print
 returns-in_err-print g c =
     let refused = err_from_is_err_and c.from_residual-in_err-print.result c.from_residual-in_err-print.ensures.1 in
-    let is = ap plains c.deref.ensures.value ∙ c.requires.0 in
+    let is = ap plain_inputs c.deref.ensures.value ∙ c.requires.0 in
     let read = c.in_ok-files.ensures.read in
     let are = subst (λ fs. AreFiles fs read.files) (sym c.deref-2.ensures.value) read.are in
     let made = makes (asked c.args.line.now.command) (g.V.Vault.state c.args.vault.now) read.files (plain_product c.in_ok-work.work)
@@ -31,7 +31,7 @@ returns-in_err-print g c =
 pub returns-in_err-store : goal.returns-in_err-store
 returns-in_err-store g c =
     let refused = err_from_is_err_and c.from_residual-in_err-store.result c.from_residual-in_err-store.ensures.1 in
-    let is = ap plains c.deref.ensures.value ∙ c.requires.0 in
+    let is = ap plain_inputs c.deref.ensures.value ∙ c.requires.0 in
     let read = c.in_ok-files.ensures.read in
     let are = subst (λ fs. AreFiles fs read.files) (sym c.deref-2.ensures.value) read.are in
     let made = makes (asked c.args.line.now.command) (g.V.Vault.state c.args.vault.now) read.files (plain_product c.in_ok-work.work)
@@ -42,7 +42,7 @@ returns-in_err-store g c =
 
 pub returns : goal.returns
 returns g c =
-    let is = ap plains c.deref.ensures.value ∙ c.requires.0 in
+    let is = ap plain_inputs c.deref.ensures.value ∙ c.requires.0 in
     let read = c.in_ok-files.ensures.read in
     let are = subst (λ fs. AreFiles fs read.files) (sym c.deref-2.ensures.value) read.are in
     let made = makes (asked c.args.line.now.command) (g.V.Vault.state c.args.vault.now) read.files (plain_product c.in_ok-work.work)
