@@ -1,6 +1,5 @@
 pub mod Starts
 pub mod KeptLaws
-pub mod BlobLaws
 pub mod Spelled
 pub mod Windows
 pub mod Marks

@@ -6,10 +6,11 @@ use Rattle.std.proofs.lemmas.Bool.{cases_lt, cases_order, cases_Bool, eqb-true, 
 use Rattle.std.proofs.lemmas.Bool.Decides.{Decides-below_or}
 use Rattle.pvm_isa.specs.Opcodes.{number_of, op_numbered}
 use Rattle.pvm_isa.specs.Terminators.{is_terminator}
-use Rattle.blob_decode.specs.Program.{Program, mask_bit, gap, next, op_begins, ends, ends_block, ends_before, some_below, is_start, IsStart}
+use Rattle.blob_decode.specs.Kept.{IsNearest, NoneNear}
+use Rattle.blob_decode.specs.Program.{Program, mask_bit, gap, skip, IsSkip, next, op_begins, ends, ends_block, ends_before, some_below, is_start, IsStart}
 use Rattle.pvm_isa.specs.Arguments.{code_byte}
 use Rattle.pvm_isa.specs.declared.op.Op.{Op}
-use Rattle.pvm_isa.proofs.Lookups.{numbered, numbered-only}
+use Rattle.pvm_isa.specs.OpcodeLaws.{numbered, numbered-only}
 
 -- of n places from k on, at most n stand before the next instruction
 pub gap-most : (p : Program) (k n : ℕ) → gap p k n ≤ n
@@ -59,12 +60,37 @@ gap-is p k (suc n) (suc m) most none ends =
     (λ less. let place : k + suc m ≡ k + 1 + m = omega arith in ap (mask_bit p) (sym place) ∙ ends (omega arith)) in
     rw goes (omega (arith, more))
 
--- the nearest instruction before i, at most 25 places before it
-pub record IsNearest (p : Program) (i n : ℕ) : Type 0 where
-  pub before : n < i
-  pub near : i ≤ n + 25
-  pub begins : mask_bit p n ≡ true
-  pub none : (j : ℕ) → n < j → j < i → mask_bit p j ≡ false
+-- the places passed are fewer than n only where the next instruction begins after them
+gap-ends : (p : Program) (k n : ℕ) → gap p k n < n → mask_bit p (k + gap p k n) ≡ true
+gap-ends p k zero less = absurd (omega (arith, less))
+gap-ends p k (suc n) less = elim (cases_Bool (mask_bit p k)) [
+  | inl begins ↦
+      let place : k + gap p k (suc n) ≡ k = omega (arith, gap-here p k (suc n) begins) in
+      ap (mask_bit p) place ∙ begins
+  | inr goes ↦
+      let more : gap p k (suc n) ≡ gap p (k + 1) n + 1 = gap-on p k n goes in
+      let place : k + gap p k (suc n) ≡ k + 1 + gap p (k + 1) n = omega (arith, more) in
+      ap (mask_bit p) place ∙ gap-ends p (k + 1) n (omega (arith, less, more))
+]
+
+-- the skip in words, and no other number is it
+pub skip-IsSkip : (p : Program) (i : ℕ) → IsSkip p i (skip p i)
+skip-IsSkip p i = record {
+  most = gap-most p (i + 1) 24;
+  none_nearer = λ j less. elim (cases_Bool (mask_bit p (i + 1 + j))) [
+    | inl begins ↦ absurd (omega (arith, less, gap-stops p (i + 1) 24 (i + 1 + j) (omega arith) begins))
+    | inr goes ↦ goes
+  ];
+  begins = λ less. gap-ends p (i + 1) 24 less;
+}
+
+pub skip-only : (p : Program) (i n : ℕ) → IsSkip p i n → n ≡ skip p i
+skip-only p i n is =
+    sym (gap-is p (i + 1) 24 n is.most
+    (λ j from below.
+    let place : i + 1 + (j - (i + 1)) ≡ j = omega (arith, from) in
+    ap (mask_bit p) (sym place) ∙ is.none_nearer (j - (i + 1)) (omega (arith, from, below)))
+    is.begins)
 
 next-nearest : (p : Program) (i n : ℕ) → IsNearest p i n → mask_bit p i ≡ true → next p n ≡ i
 next-nearest p i n nearest begins =
@@ -86,7 +112,7 @@ only-nearest p i n k nearest begins ends = elim (cases_order k n) [
   ]
 ]
 
-none-before : (p : Program) (i k : ℕ) → ((j : ℕ) → j < i → i ≤ j + 25 → mask_bit p j ≡ false) → mask_bit p k ≡ true → next p k ≡ i → ⊥
+none-before : (p : Program) (i k : ℕ) → NoneNear p i → mask_bit p k ≡ true → next p k ≡ i → ⊥
 none-before p i k none begins ends =
     let goes : mask_bit p k ≡ false = none k (omega (arith, ends)) (omega (arith, ends, gap-most p (k + 1) 24)) in
     absurd (cc (begins, goes))

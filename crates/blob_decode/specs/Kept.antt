@@ -1,8 +1,8 @@
 -- What is kept of a program blob, and the program that it stands for.
-use Rattle.std.specs.Prelude.{◌≡◌, ℕ, ◌+◌, ◌*◌, ◌/◌, ◌%◌, ◌^◌, ◌<◌, ◌≤◌, List, length, get_or}
+use Rattle.std.specs.Prelude.{◌≡◌, ℕ, ◌+◌, ◌*◌, ◌/◌, ◌%◌, ◌^◌, ◌<◌, ◌≤◌, true, false, List, length, get_or}
 use Rattle.jam_codec.specs.Spelling.{little_number, numbers, binary_digits, bytes_for}
 use Rattle.jam_codec.specs.Laws.{AreBytes}
-use Rattle.blob_decode.specs.Program.{Program}
+use Rattle.blob_decode.specs.Program.{Program, mask_bit}
 
 -- how many jumps and their width, and the bytes that spell the jumps, the code and the mask
 abbrev pub program_of : ℕ → ℕ → List ℕ → List ℕ → List ℕ → Program
@@ -28,6 +28,17 @@ pub record AreMarks (size : ℕ) (mask marks : List ℕ) : Type 0 where
   pub bytes : AreBytes marks
   pub same : (i : ℕ) → i < size → get_or marks (i / 8) 0 / 2 ^ (i % 8) % 2 ≡ get_or mask (i / 8) 0 / 2 ^ (i % 8) % 2
   pub end : get_or marks (size / 8) 0 / 2 ^ (size % 8) % 2 ≡ 1
+
+-- the nearest place before this one at which an instruction begins is n, at most 25 before
+pub record IsNearest (p : Program) (place n : ℕ) : Type 0 where
+  pub before : n < place
+  pub near : place ≤ n + 25
+  pub begins : mask_bit p n ≡ true
+  pub none : (j : ℕ) → n < j → j < place → mask_bit p j ≡ false
+
+-- no instruction begins at the 25 places before
+abbrev pub NoneNear : Program → ℕ → Type 0
+NoneNear p place = (j : ℕ) → j < place → place ≤ j + 25 → mask_bit p j ≡ false
 
 -- n of the lowest 24 bits of a number stand before the first that is set
 pub record FirstSet (bits n : ℕ) : Type 0 where

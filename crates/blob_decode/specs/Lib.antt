@@ -2,3 +2,5 @@ pub mod Program
 pub mod Kept
 pub mod Parts
 pub mod Refusal
+pub mod Fetched
+pub mod BlobLaws

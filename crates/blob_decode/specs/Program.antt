@@ -1,5 +1,5 @@
 -- Programs, and the blobs that spell them (Gray Paper 0.7.0, appendix A; the layout is this project's own).
-use Rattle.std.specs.Prelude.{◌≡◌, ◌<◌, ◌⊎◌, IsTrue, ℕ, zero, suc, ◌+◌, ◌-◌, ◌/◌, ◌%◌, Bool, true, false, ◌&&◌, ◌||◌, ◌==◌, nat_lt, nat_le, List, length, get_or, slice_get, if◌then◌else◌, Option, Some, None, is_some, unwrap_or}
+use Rattle.std.specs.Prelude.{◌≡◌, ◌<◌, ◌≤◌, ◌⊎◌, IsTrue, ℕ, zero, suc, ◌+◌, ◌-◌, ◌/◌, ◌%◌, Bool, true, false, ◌&&◌, ◌||◌, ◌==◌, nat_lt, nat_le, List, length, get_or, slice_get, if◌then◌else◌, Option, Some, None, is_some, unwrap_or}
 use Rattle.jam_codec.specs.Format.{Format, both, by, natural_where, fixed_where, bytes_where, bits_where, numbers_of, any}
 use Rattle.pvm_isa.specs.declared.op.Op.{Op}
 use Rattle.pvm_isa.specs.declared.op.Op.TheVariants.{Trap}
@@ -38,6 +38,12 @@ gap p i (suc n) = if mask_bit p i then 0 else gap p (i + 1) n + 1
 -- how many bytes of arguments the instruction at i has: those up to the next instruction, and at most 24
 abbrev pub skip : Program → ℕ → ℕ
 skip p i = gap p (i + 1) 24
+
+-- the same in words: the least distance from the place after i to one at which an instruction begins, and at most 24
+pub record IsSkip (p : Program) (i n : ℕ) : Type 0 where
+  pub most : n ≤ 24
+  pub none_nearer : (j : ℕ) → j < n → mask_bit p (i + 1 + j) ≡ false
+  pub begins : n < 24 → mask_bit p (i + 1 + n) ≡ true
 
 -- the place after the instruction at i
 abbrev pub next : Program → ℕ → ℕ

@@ -5,5 +5,5 @@ mod laws;
 mod parts;
 mod program;
 
-pub use laws::{blob_laws, start_law};
+pub use laws::{blob_laws, skip_law, start_law};
 pub use program::{Fetched, Program, ProgramRefusal};

@@ -7,7 +7,8 @@ ghost use Rattle.pvm_isa.specs.declared.op.Op.TheVariants.{Trap};
 ghost use Rattle.pvm_isa.specs.Opcodes.{op_numbered};
 ghost use Rattle.pvm_isa.specs.Arguments.{IsWindow};
 ghost use Rattle.blob_decode.specs.Refusal.{IsPlaced};
-ghost use Rattle.blob_decode.specs.Kept.{FirstSet, LastSet, AreMarks};
+ghost use Rattle.blob_decode.specs.Fetched.{IsFetched};
+ghost use Rattle.blob_decode.specs.Kept.{FirstSet, LastSet, AreMarks, IsNearest, NoneNear};
 ghost use Rattle.blob_decode.specs.Program.{program_blob, mask_bit, op_begins, op_at, gap, skip, next, is_start, ends_block, ends_before, some_below};
 ghost use Rattle.pvm_isa.specs.Arguments.{code_byte};
 
@@ -63,6 +64,8 @@ pub struct Program {
 pub struct Fetched {
     /// The opcode of the instruction there; `Trap` where none with a defined opcode begins.
     pub op: Op,
+    /// The place.
+    pub pc: u64,
     /// How many bytes of arguments it has, at most 24.
     pub skip: u8,
     /// The place of the next instruction.
@@ -269,11 +272,7 @@ impl Program {
     fn found(&self, place: u64, bytes: u64) -> Fetched
         requires within { place < length self.now.code }
         requires window { IsWindow self.now.code place bytes }
-        ensures op { result.op ≡ op_at self.now place }
-        ensures skip { result.skip ≡ skip self.now place }
-        ensures most { result.skip ≤ 24 }
-        ensures next { result.next ≡ next self.now place }
-        ensures bytes { result.bytes ≡ bytes }
+        ensures { IsFetched self.now place result }
     {
         // The code is shorter than 2^63.
         let _code = self.code();
@@ -286,6 +285,7 @@ impl Program {
         let ahead = next_set(marks);
         Fetched {
             op,
+            pc: place,
             skip: (ahead - 1) as u8,
             next: place + u64::from(ahead),
             bytes,
@@ -297,12 +297,7 @@ impl Program {
     #[inline(never)]
     fn fetch_near_end(&self, pc: u64) -> Option<Fetched>
         ensures past { IfNone result (length self.now.code ≤ pc) }
-        ensures within { IfSome result (λ _. pc < length self.now.code) }
-        ensures op { IfSome result (λ found. found.op ≡ op_at self.now pc) }
-        ensures skip { IfSome result (λ found. found.skip ≡ skip self.now pc) }
-        ensures most { IfSome result (λ found. found.skip ≤ 24) }
-        ensures next { IfSome result (λ found. found.next ≡ next self.now pc) }
-        ensures bytes { IfSome result (λ found. IsWindow self.now.code pc found.bytes) }
+        ensures found { IfSome result (IsFetched self.now pc) }
     {
         let code = self.code();
         if pc >= code.len() as u64 {
@@ -315,12 +310,7 @@ impl Program {
     #[inline]
     pub fn fetch(&self, pc: u64) -> Option<Fetched>
         ensures past { IfNone result (length self.now.code ≤ pc) }
-        ensures within { IfSome result (λ _. pc < length self.now.code) }
-        ensures op { IfSome result (λ found. found.op ≡ op_at self.now pc) }
-        ensures skip { IfSome result (λ found. found.skip ≡ skip self.now pc) }
-        ensures most { IfSome result (λ found. found.skip ≤ 24) }
-        ensures next { IfSome result (λ found. found.next ≡ next self.now pc) }
-        ensures bytes { IfSome result (λ found. IsWindow self.now.code pc found.bytes) }
+        ensures found { IfSome result (IsFetched self.now pc) }
     {
         if pc < self.windows {
             return Some(self.found(pc, whole_window(self.code(), pc)));
@@ -328,15 +318,12 @@ impl Program {
         self.fetch_near_end(pc)
     }
 
-    // The nearest place before this one at which an instruction begins, at most so many before.
-    fn begun_before(&self, place: u64, most: u64) -> Option<u64>
-        ensures before { IfSome result (λ n. n < place) }
-        ensures near { IfSome result (λ n. place ≤ n + most) }
-        ensures begins { IfSome result (λ n. mask_bit self.now n ≡ true) }
-        ensures nearest { IfSome result (λ n. (j : ℕ) → n < j → j < place → mask_bit self.now j ≡ false) }
-        ensures none { IfNone result ((j : ℕ) → j < place → place ≤ j + most → mask_bit self.now j ≡ false) }
+    // The nearest place before this one at which an instruction begins, at most 25 before.
+    fn begun_before(&self, place: u64) -> Option<u64>
+        ensures nearest { IfSome result (IsNearest self.now place) }
+        ensures none { IfNone result (NoneNear self.now place) }
     {
-        for back in 0..most.min(place) {
+        for back in 0..place.min(25) {
             let n = place - 1 - back;
             if self.mask_at(n) {
                 return Some(n);
@@ -345,16 +332,13 @@ impl Program {
         None
     }
 
-    // The same of the 25 places before, whose bits four bytes of the mask hold.
+    // The same of a place with 25 before it, whose bits four bytes of the mask hold.
     #[inline]
     fn begun_in_window(&self, place: u64) -> Option<u64>
         requires far { 25 ≤ place }
         requires within { place < length self.now.code }
-        ensures before { IfSome result (λ n. n < place) }
-        ensures near { IfSome result (λ n. place ≤ n + 25) }
-        ensures begins { IfSome result (λ n. mask_bit self.now n ≡ true) }
-        ensures nearest { IfSome result (λ n. (j : ℕ) → n < j → j < place → mask_bit self.now j ≡ false) }
-        ensures none { IfNone result ((j : ℕ) → j < place → place ≤ j + 25 → mask_bit self.now j ≡ false) }
+        ensures nearest { IfSome result (IsNearest self.now place) }
+        ensures none { IfNone result (NoneNear self.now place) }
     {
         let from = place - 25;
         let bits = (window(&self.mask, (from / 8) as usize) >> (from % 8)) % (1 << 25);
@@ -364,18 +348,15 @@ impl Program {
         }
     }
 
-    // The nearest place before this one at which an instruction begins, at most 25 before.
+    // The same of each place.
     #[inline]
     fn nearest_before(&self, place: u64) -> Option<u64>
         requires { place < length self.now.code }
-        ensures before { IfSome result (λ n. n < place) }
-        ensures near { IfSome result (λ n. place ≤ n + 25) }
-        ensures begins { IfSome result (λ n. mask_bit self.now n ≡ true) }
-        ensures nearest { IfSome result (λ n. (j : ℕ) → n < j → j < place → mask_bit self.now j ≡ false) }
-        ensures none { IfNone result ((j : ℕ) → j < place → place ≤ j + 25 → mask_bit self.now j ≡ false) }
+        ensures nearest { IfSome result (IsNearest self.now place) }
+        ensures none { IfNone result (NoneNear self.now place) }
     {
         if place < 25 {
-            return self.begun_before(place, 25);
+            return self.begun_before(place);
         }
         self.begun_in_window(place)
     }

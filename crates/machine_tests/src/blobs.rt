@@ -22,6 +22,7 @@ fn fetches(rt: &impl Abort, program: &Program, place: u64, bytes: Option<u64>) {
     if let Some(bytes) = bytes {
         let wanted = Fetched {
             op,
+            pc: place,
             skip,
             next,
             bytes,

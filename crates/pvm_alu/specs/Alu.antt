@@ -7,7 +7,8 @@ use Rattle.std.specs.Int.{w32, w64, leading_zeros, trailing_zeros, swap_bytes}
 use Rattle.std.specs.Int.RustNames.{count_ones}
 use Rattle.pvm_isa.specs.declared.op.Op.{Op}
 use Rattle.pvm_isa.specs.declared.op.Op.TheVariants.{LoadU8, LoadI8, LoadU16, LoadI16, LoadU32, LoadI32, LoadU64, BranchEqImm, BranchNeImm, BranchLtUImm, BranchLeUImm, BranchGeUImm, BranchGtUImm, BranchLtSImm, BranchLeSImm, BranchGeSImm, BranchGtSImm, CountSetBits64, CountSetBits32, LeadingZeroBits64, LeadingZeroBits32, TrailingZeroBits64, TrailingZeroBits32, SignExtend8, SignExtend16, ZeroExtend16, ReverseBytes, LoadIndU8, LoadIndI8, LoadIndU16, LoadIndI16, LoadIndU32, LoadIndI32, LoadIndU64, AddImm32, AndImm, XorImm, OrImm, MulImm32, SetLtUImm, SetLtSImm, ShloLImm32, ShloRImm32, SharRImm32, NegAddImm32, SetGtUImm, SetGtSImm, ShloLImmAlt32, ShloRImmAlt32, SharRImmAlt32, AddImm64, MulImm64, ShloLImm64, ShloRImm64, SharRImm64, NegAddImm64, ShloLImmAlt64, ShloRImmAlt64, SharRImmAlt64, RotR64Imm, RotR64ImmAlt, RotR32Imm, RotR32ImmAlt, BranchEq, BranchNe, BranchLtU, BranchLtS, BranchGeU, BranchGeS, Add32, Sub32, Mul32, DivU32, DivS32, RemU32, RemS32, ShloL32, ShloR32, SharR32, Add64, Sub64, Mul64, DivU64, DivS64, RemU64, RemS64, ShloL64, ShloR64, SharR64, And, Xor, Or, MulUpperSS, MulUpperUU, MulUpperSU, SetLtU, SetLtS, RotL64, RotL32, RotR64, RotR32, AndInv, OrInv, Xnor, Max, MaxU, Min, MinU}
-use Rattle.pvm_alu.specs.Words.{low_32, extended, extended_32, signed_64, signed_32, difference, quotient, remainder, signed_quotient, signed_remainder, inverted, shifted_left, shifted_right, shifted_right_signed, turned_right, turned_left, upper_half, one_where}
+use Rattle.byte_numbers.specs.Signs.{extended_bits}
+use Rattle.pvm_alu.specs.Words.{low_32, extended_32, signed_64, signed_32, difference, quotient, remainder, signed_quotient, signed_remainder, inverted, shifted_left, shifted_right, shifted_right_signed, turned_right, turned_left, upper_half, one_where}
 
 -- operations with two values: opcodes 131 to 146, 149 to 161, 190 to 217 and 220 to 230
 unfoldable pub binary_line : Op → Option (ℕ → ℕ → ℕ)
@@ -89,8 +90,8 @@ unary_line LeadingZeroBits64 = Some (λ a. leading_zeros w64 a)
 unary_line LeadingZeroBits32 = Some (λ a. leading_zeros w32 (low_32 a))
 unary_line TrailingZeroBits64 = Some (λ a. trailing_zeros w64 a)
 unary_line TrailingZeroBits32 = Some (λ a. trailing_zeros w32 (low_32 a))
-unary_line SignExtend8 = Some (λ a. extended 8 (a % 2 ^ 8))
-unary_line SignExtend16 = Some (λ a. extended 16 (a % 2 ^ 16))
+unary_line SignExtend8 = Some (λ a. extended_bits 8 (a % 2 ^ 8))
+unary_line SignExtend16 = Some (λ a. extended_bits 16 (a % 2 ^ 16))
 unary_line ZeroExtend16 = Some (λ a. a % 2 ^ 16)
 unary_line ReverseBytes = Some (λ a. swap_bytes w64 a)
 unary_line _ = None
@@ -136,18 +137,18 @@ loaded_bytes _ = 0
 -- what a load puts into its register, of the number that those bytes make
 unfoldable pub widen_line : Op → Option (ℕ → ℕ)
 widen_line LoadU8 = Some (λ raw. raw)
-widen_line LoadI8 = Some (λ raw. extended 8 raw)
+widen_line LoadI8 = Some (λ raw. extended_bits 8 raw)
 widen_line LoadU16 = Some (λ raw. raw)
-widen_line LoadI16 = Some (λ raw. extended 16 raw)
+widen_line LoadI16 = Some (λ raw. extended_bits 16 raw)
 widen_line LoadU32 = Some (λ raw. raw)
-widen_line LoadI32 = Some (λ raw. extended 32 raw)
+widen_line LoadI32 = Some (λ raw. extended_bits 32 raw)
 widen_line LoadU64 = Some (λ raw. raw)
 widen_line LoadIndU8 = Some (λ raw. raw)
-widen_line LoadIndI8 = Some (λ raw. extended 8 raw)
+widen_line LoadIndI8 = Some (λ raw. extended_bits 8 raw)
 widen_line LoadIndU16 = Some (λ raw. raw)
-widen_line LoadIndI16 = Some (λ raw. extended 16 raw)
+widen_line LoadIndI16 = Some (λ raw. extended_bits 16 raw)
 widen_line LoadIndU32 = Some (λ raw. raw)
-widen_line LoadIndI32 = Some (λ raw. extended 32 raw)
+widen_line LoadIndI32 = Some (λ raw. extended_bits 32 raw)
 widen_line LoadIndU64 = Some (λ raw. raw)
 widen_line _ = None
 

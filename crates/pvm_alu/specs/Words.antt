@@ -1,18 +1,15 @@
 -- The words of fixed-width arithmetic, on whole numbers (Gray Paper 0.7.0, appendix A; the names are this project's own).
-use Rattle.std.specs.Prelude.{ℕ, ◌+◌, ◌-◌, ◌*◌, ◌/◌, ◌%◌, ◌^◌, Bool, nat_lt, ◌==◌, if◌then◌else◌, ℤ, pos, unsigned_abs, int_div, int_rem}
+use Rattle.std.specs.Prelude.{ℕ, ◌+◌, ◌-◌, ◌*◌, ◌/◌, ◌%◌, ◌^◌, Bool, ◌==◌, if◌then◌else◌, ℤ, pos, unsigned_abs, int_div, int_rem}
 use Rattle.std.specs.Int.{w32, w64, cast_signed, int_div_euclid, int_rem_euclid}
+use Rattle.byte_numbers.specs.Signs.{extended_bits}
 
 -- the lowest 32 bits
 abbrev pub low_32 : ℕ → ℕ
 low_32 v = v % 2 ^ 32
 
--- a number of k bits, sign-extended to 64 bits
-abbrev pub extended : ℕ → ℕ → ℕ
-extended k v = if nat_lt v (2 ^ (k - 1)) then v else v + (2 ^ 64 - 2 ^ k)
-
 -- the lowest 32 bits, sign-extended to 64 bits: the result of each operation of 32 bits
 abbrev pub extended_32 : ℕ → ℕ
-extended_32 v = extended 32 (low_32 v)
+extended_32 v = extended_bits 32 (low_32 v)
 
 -- a number of 64 bits with its sign
 abbrev pub signed_64 : ℕ → ℤ

@@ -8,7 +8,7 @@ use Rattle.pvm_isa.specs.declared.form.Form.TheVariants.{F1}
 use Rattle.pvm_isa.specs.declared.op.Op.{Op}
 use Rattle.pvm_isa.specs.declared.op.Op.TheVariants.{Trap}
 use Rattle.pvm_isa.specs.Opcodes.{entry, number_of, form_of, op_numbered}
-use Rattle.pvm_isa.proofs.Lookups.{numbered, numbered-only, number_of-injective}
+use Rattle.pvm_isa.specs.OpcodeLaws.{numbered, numbered-only, number_of-injective}
 
 abbrev pub Row : Type 0
 Row = Op × Form

@@ -1,30 +1,19 @@
 -- The arguments of an instruction, by its form (Gray Paper 0.7.0, appendix A; the numbers of the forms are this project's own).
-use Rattle.std.specs.Prelude.{◌≡◌, ◌<◌, ℕ, ◌+◌, ◌-◌, ◌*◌, ◌/◌, ◌%◌, ◌^◌, min, nat_lt, nat_le, List, [], ◌∷◌, take, drop, get_or, if◌then◌else◌, Option, Some, None}
+use Rattle.std.specs.Prelude.{◌≡◌, ℕ, ◌+◌, ◌-◌, ◌/◌, ◌%◌, ◌^◌, min, nat_lt, nat_le, List, get_or, if◌then◌else◌, Option, Some, None}
+use Rattle.byte_numbers.specs.Numbers.{AreBytes, number_at}
+use Rattle.byte_numbers.specs.Signs.{extended_bytes}
 use Rattle.pvm_isa.specs.declared.arguments.Args.{Args}
 use Rattle.pvm_isa.specs.declared.form.Form.{Form}
 use Rattle.pvm_isa.specs.declared.form.Form.TheVariants.{F1, F2, F3, F4, F5, F6, F7, F8, F9, F10, F11, F12, F13}
 
--- the number in these bytes, the least significant first
-abbrev pub little_number : List ℕ → ℕ
-little_number [] = 0
-little_number (b ∷ bs) = b + 256 * little_number bs
-
--- the number in the n bytes of the code at a place; past the code they are 0
-abbrev pub number_at : List ℕ → ℕ → ℕ → ℕ
-number_at code place n = little_number (take n (drop place code))
-
 -- a number is that of the eight bytes of a code at a place
 pub record IsWindow (code : List ℕ) (place bytes : ℕ) : Type 0 where
   pub number : bytes ≡ number_at code place 8
-  pub small : (k : ℕ) → get_or code k 0 < 256
+  pub small : AreBytes code
 
--- a number of n bytes with its sign, as one of 64 bits; of no bytes it is 0
-abbrev pub sign_extended : ℕ → ℕ → ℕ
-sign_extended n x = if nat_lt x (2 ^ (8 * n - 1)) then x else x + (2 ^ 64 - 2 ^ (8 * n))
-
--- the immediate in the n bytes of the code at a place
+-- the immediate in the n bytes of the code at a place, which have a sign
 abbrev pub imm : List ℕ → ℕ → ℕ → ℕ
-imm code place n = sign_extended n (number_at code place n)
+imm code place n = extended_bytes n (number_at code place n)
 
 -- an immediate has at most 4 bytes
 abbrev pub short : ℕ → ℕ

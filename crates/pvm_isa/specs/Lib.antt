@@ -1,3 +1,5 @@
 pub mod Opcodes
 pub mod Terminators
 pub mod Arguments
+pub mod OpcodeLaws
+pub mod WindowLaws

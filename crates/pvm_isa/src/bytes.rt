@@ -1,6 +1,8 @@
 // Bytes, immediates and registers of the code.
 ghost use Rattle.std.specs.Prelude.{◌≡◌, ◌<◌, ◌≤◌, ◌+◌, ◌-◌, ◌*◌, ◌/◌, ◌%◌, ◌^◌, length, take, drop};
-ghost use Rattle.pvm_isa.specs.Arguments.{little_number, number_at, sign_extended, imm, offset, code_byte, register, low, high};
+ghost use Rattle.byte_numbers.specs.Numbers.{number_at};
+ghost use Rattle.byte_numbers.specs.Signs.{extended_bytes};
+ghost use Rattle.pvm_isa.specs.Arguments.{imm, offset, code_byte, register};
 
 /// The byte of the code at a place. Past the code it is 0.
 #[inline]
@@ -78,7 +80,7 @@ pub fn eight_bytes(code: &[u8], place: u64) -> u64
 #[inline]
 pub fn with_sign(number: u64, size: u8) -> u64
     requires { size ≤ 4 }
-    ensures { result ≡ sign_extended size (number % 2 ^ (8 * size)) }
+    ensures { result ≡ extended_bytes size (number % 2 ^ (8 * size)) }
 {
     if size == 0 {
         return 0;

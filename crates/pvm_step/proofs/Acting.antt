@@ -18,15 +18,15 @@ use Rattle.pvm_isa.specs.declared.form.Form.{Form}
 use Rattle.pvm_isa.specs.declared.op.Op.{Op}
 use Rattle.pvm_isa.specs.Opcodes.{form_of}
 use Rattle.pvm_isa.specs.Arguments.{arguments}
-use Rattle.pvm_step.specs.Effect.{State, Act, Stores, line, outcome, after, effect, goes, stops, stores, exit_of}
+use Rattle.pvm_step.specs.Effect.{MachineState, Act, Stores, line, outcome, after, effect, goes, stops, stores, exit_of}
 
 -- a store that is not refused, and one that is
-pub stored-at : (p : Program) (s : State) (width to value : ℕ) → refusal s.memory may.Write to width ≡ None
+pub stored-at : (p : Program) (s : MachineState) (width to value : ℕ) → refusal s.memory may.Write to width ≡ None
     → after p s (Stores width to value) ≡ goes (record s { memory = put_bytes s.memory to (bytes_of width value) }) (next p s.pc)
 unfolding after
 stored-at p s width to value h = ap (stores p s (put_bytes s.memory to (bytes_of width value))) h
 
-pub refused-at : (p : Program) (s : State) (width to value : ℕ) (access : Access) → refusal s.memory may.Write to width ≡ Some access
+pub refused-at : (p : Program) (s : MachineState) (width to value : ℕ) (access : Access) → refusal s.memory may.Write to width ≡ Some access
     → after p s (Stores width to value) ≡ stops s (exit_of access)
 unfolding after
 refused-at p s width to value access h = ap (stores p s (put_bytes s.memory to (bytes_of width value))) h
@@ -54,11 +54,11 @@ op_at-past p i past =
     let out : nat_lt i (length p.code) ≡ false = grind (arith, nat_tests) in
     ap (λ b. if b && mask_bit p i && is_some (op_numbered (code_byte p.code i)) then unwrap_or (op_numbered (code_byte p.code i)) Trap else Trap) out
 
-pub trap_panics : (p : Program) (s : State) → outcome Trap p s ≡ stops s Panic
+pub trap_panics : (p : Program) (s : MachineState) → outcome Trap p s ≡ stops s Panic
 unfolding after outcome line
 trap_panics p s = refl
 
-pub effect-past : (p : Program) (s : State) → length p.code ≤ s.pc → effect p s ≡ stops s Panic
+pub effect-past : (p : Program) (s : MachineState) → length p.code ≤ s.pc → effect p s ≡ stops s Panic
 unfolding effect
 effect-past p s past = ap (λ op. outcome op p s) (op_at-past p s.pc past) ∙ trap_panics p s
 
@@ -67,9 +67,9 @@ pub within-ecalli : (p : Program) (i : ℕ) → op_at p i ≡ Ecalli → i < len
 within-ecalli p i h = elim (cases_lt i (length p.code)) [ inl within ↦ within | inr past ↦ let t : op_at p i ≡ Trap = op_at-past p i (omega arith) in absurd (cc) ]
 
 -- what an opcode does, by its line and its form
-pub outcome_by : (op : Op) (form : Form) (act : Args → State → Act) (p : Program) (s : State) → line op ≡ act → form_of op ≡ form
+pub outcome_by : (op : Op) (form : Form) (act : Args → MachineState → Act) (p : Program) (s : MachineState) → line op ≡ act → form_of op ≡ form
     → outcome op p s ≡ after p s (act (arguments form p.code s.pc (skip p s.pc)) s)
 unfolding outcome
 outcome_by op form act p s by_line by_form =
-    ap (λ (l : Args → State → Act). after p s (l (arguments (form_of op) p.code s.pc (skip p s.pc)) s)) by_line
+    ap (λ (l : Args → MachineState → Act). after p s (l (arguments (form_of op) p.code s.pc (skip p s.pc)) s)) by_line
     ∙ ap (λ (f : Form). after p s (act (arguments f p.code s.pc (skip p s.pc)) s)) by_form

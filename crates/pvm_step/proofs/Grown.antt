@@ -2,11 +2,11 @@
 use Rattle.std.proofs.Common.{◌≡◌, ◌≢◌, ℕ, zero, suc, ◌+◌, ◌*◌, ◌<◌, ◌≤◌, ◌⊎◌, inl, inr, Bool, true, false, ap, sym, ◌∙◌, refl, arith, Option, Some, None}
 use Rattle.std.specs.Prelude.{nat_lt, ◌==◌, if◌then◌else◌}
 use Rattle.std.specs.FinMap as fin
-use Rattle.std.proofs.lemmas.Bool.{cases_lt, le-ltb, ne_eqb, eq-eqb, both_ways}
-use Rattle.blob_decode.specs.Program.{Program}
+use Rattle.std.proofs.lemmas.Bool.{cases_lt, le-ltb, lt-ltb, ne_eqb, eq-eqb, both_ways}
+use Rattle.blob_decode.specs.Program.{Program, next}
 use Rattle.paged_memory.specs.PageMap.{Memory, Page, page_of, lift_in, lift_page, lift_pages}
 use Rattle.paged_memory.proofs.Maps.{inserted_there, inserted_other}
-use Rattle.pvm_step.specs.Effect.{State, Grows, after, given, grown, pages_touched}
+use Rattle.pvm_step.specs.Effect.{MachineState, Grows, after, with_register, grown, pages_touched}
 use Rattle.pvm_step.specs.Named.{Touches, new_page}
 
 -- ---- One page
@@ -58,33 +58,40 @@ not_none : (n : ℕ) → (n == 0) ≡ false → 0 < n
 not_none n is = elim (cases_lt 0 n) [ inl some ↦ some | inr none ↦ absurd (both_ways (n == 0) is (eq-eqb n 0 (omega (arith, none)))) ]
 
 -- a page is touched exactly where it is among those that are lifted
-touched_first : (s : State) (amount page : ℕ) → Touches s amount page → page_of s.heap.next ≤ page
+touched_first : (s : MachineState) (amount page : ℕ) → Touches s amount page → page_of s.heap.next ≤ page
 touched_first s amount page t = omega (arith, t.1, t.2, t.3)
 
-touched_last : (s : State) (amount page : ℕ) → Touches s amount page → page < page_of s.heap.next + pages_touched s.heap.next (s.heap.next + amount)
+touched_last : (s : MachineState) (amount page : ℕ) → Touches s amount page → page < page_of s.heap.next + pages_touched s.heap.next (s.heap.next + amount)
 touched_last s amount page t = omega (arith, t.1, t.2, t.3)
 
-touches : (s : State) (amount page : ℕ) → 0 < amount → page_of s.heap.next ≤ page → page < page_of s.heap.next + pages_touched s.heap.next (s.heap.next + amount) → Touches s amount page
+touches : (s : MachineState) (amount page : ℕ) → 0 < amount → page_of s.heap.next ≤ page → page < page_of s.heap.next + pages_touched s.heap.next (s.heap.next + amount) → Touches s amount page
 touches s amount page some low high = elim (same_or_not page (page_of s.heap.next)) [
   | inl same ↦ (s.heap.next, omega arith, omega (arith, some), sym same)
   | inr far ↦ (page * 4096, omega (arith, low, far), omega (arith, low, far, high), omega arith)
 ]
 
-grown_to : (p : Program) (s : State) (register amount : ℕ) → 0 < amount → s.heap.next + amount ≤ s.heap.end
+grown_to : (p : Program) (s : MachineState) (register amount : ℕ) → 0 < amount → s.heap.next + amount ≤ s.heap.end
     → (after p s (Grows register amount)).state.memory ≡ lift_pages s.memory (page_of s.heap.next) (pages_touched s.heap.next (s.heap.next + amount))
 unfolding after
 grown_to p s register amount some room =
-    ap (λ b. (if b then given s register s.heap.next else if nat_lt s.heap.end (s.heap.next + amount) then given s register 0 else given (grown s amount) register s.heap.next).memory) (not_zero amount some)
-    ∙ ap (λ b. (if b then given s register 0 else given (grown s amount) register s.heap.next).memory) (le-ltb s.heap.end (s.heap.next + amount) room)
+    ap (λ b. (if b then with_register s register s.heap.next else if nat_lt s.heap.end (s.heap.next + amount) then with_register s register 0 else with_register (grown s amount) register s.heap.next).memory) (not_zero amount some)
+    ∙ ap (λ b. (if b then with_register s register 0 else with_register (grown s amount) register s.heap.next).memory) (le-ltb s.heap.end (s.heap.next + amount) room)
 
-pub lifts : (p : Program) (s : State) (register amount page : ℕ) → 0 < amount → s.heap.next + amount ≤ s.heap.end → Touches s amount page → fin.get s.memory page ≡ None
+pub full : (p : Program) (s : MachineState) (register amount : ℕ) → 0 < amount → s.heap.end < s.heap.next + amount
+    → (after p s (Grows register amount)).state ≡ record (with_register s register 0) { pc = next p s.pc }
+unfolding after
+full p s register amount some room =
+    ap (λ b. record (if b then with_register s register s.heap.next else if nat_lt s.heap.end (s.heap.next + amount) then with_register s register 0 else with_register (grown s amount) register s.heap.next) { pc = next p s.pc }) (not_zero amount some)
+    ∙ ap (λ b. record (if b then with_register s register 0 else with_register (grown s amount) register s.heap.next) { pc = next p s.pc }) (lt-ltb s.heap.end (s.heap.next + amount) room)
+
+pub lifts : (p : Program) (s : MachineState) (register amount page : ℕ) → 0 < amount → s.heap.next + amount ≤ s.heap.end → Touches s amount page → fin.get s.memory page ≡ None
     → fin.get (after p s (Grows register amount)).state.memory page ≡ Some new_page
 lifts p s register amount page some room t none =
     ap (λ (m : Memory). fin.get m page) (grown_to p s register amount some room)
     ∙ lifted (pages_touched s.heap.next (s.heap.next + amount)) s.memory (page_of s.heap.next) page (touched_first s amount page t) (touched_last s amount page t) none
 
 -- no other page changes, in each of the three cases
-spared_in : (s : State) (amount page : ℕ) (o : Option Page) → 0 < amount → fin.get s.memory page ≡ o → (Touches s amount page → fin.get s.memory page ≡ None → ⊥)
+spared_in : (s : MachineState) (amount page : ℕ) (o : Option Page) → 0 < amount → fin.get s.memory page ≡ o → (Touches s amount page → fin.get s.memory page ≡ None → ⊥)
     → fin.get (grown s amount).memory page ≡ fin.get s.memory page
 spared_in s amount page (Some held) some is not = kept (pages_touched s.heap.next (s.heap.next + amount)) s.memory (page_of s.heap.next) page held is ∙ sym is
 spared_in s amount page None some is not = elim (cases_lt page (page_of s.heap.next)) [
@@ -95,13 +102,13 @@ spared_in s amount page None some is not = elim (cases_lt page (page_of s.heap.n
   ]
 ]
 
-spared_by : (s : State) (register amount page : ℕ) (b c : Bool) → (amount == 0) ≡ b → (Touches s amount page → fin.get s.memory page ≡ None → ⊥)
-    → fin.get (if b then given s register s.heap.next else if c then given s register 0 else given (grown s amount) register s.heap.next).memory page ≡ fin.get s.memory page
+spared_by : (s : MachineState) (register amount page : ℕ) (b c : Bool) → (amount == 0) ≡ b → (Touches s amount page → fin.get s.memory page ≡ None → ⊥)
+    → fin.get (if b then with_register s register s.heap.next else if c then with_register s register 0 else with_register (grown s amount) register s.heap.next).memory page ≡ fin.get s.memory page
 spared_by s register amount page true c is not = refl
 spared_by s register amount page false true is not = refl
 spared_by s register amount page false false is not = spared_in s amount page (fin.get s.memory page) (not_none amount is) refl not
 
-pub spares : (p : Program) (s : State) (register amount page : ℕ) → (Touches s amount page → fin.get s.memory page ≡ None → ⊥)
+pub spares : (p : Program) (s : MachineState) (register amount page : ℕ) → (Touches s amount page → fin.get s.memory page ≡ None → ⊥)
     → fin.get (after p s (Grows register amount)).state.memory page ≡ fin.get s.memory page
 unfolding after
 spares p s register amount page not = spared_by s register amount page (amount == 0) (nat_lt s.heap.end (s.heap.next + amount)) refl not

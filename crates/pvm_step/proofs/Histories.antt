@@ -6,24 +6,24 @@ use Rattle.gas_ledger.specs.Schedule.{IsSchedule}
 use Rattle.blob_decode.specs.Program.{Program}
 use Rattle.pvm_step.specs.declared.exit.Exit.{Exit}
 use Rattle.pvm_step.specs.declared.exit.Exit.TheVariants.{OutOfGas}
-use Rattle.pvm_step.specs.History.{Moment, cost, step, IsHistory, later, states, history, last_of, before_last, costs_of, reached, answer, GasNeverRises}
-use Rattle.pvm_step.proofs.Steps.{step-gas, step-went}
+use Rattle.pvm_step.specs.History.{Moment, cost, step, IsHistory, states_after, states, history, last_state, all_but_last, total_cost, reached, answer, GasNeverRises}
+use Rattle.pvm_step.proofs.Steps.{step-gas, step-charged}
 use Rattle.pvm_step.proofs.Reached.{reached-ended, reached-step, reached-none, ends}
 
 is_some_of : (o : Option Exit) (e : Exit) → o ≡ Some e → IsSome o
 is_some_of o e h = ap is_some h
 
-none_has : (m : Moment) → m.exit ≡ None → IsSome m.exit → ⊥
+pub none_has : (m : Moment) → m.exit ≡ None → IsSome m.exit → ⊥
 none_has m going has = let no : is_some m.exit ≡ false = ap is_some going in cc
 
 -- the states up to an end are a history
-one_state : (p : Program) (m : Moment) (o : Option Exit) → m.exit ≡ o → IsSome m.exit → IsHistory p m (m ∷ later o [])
+one_state : (p : Program) (m : Moment) (o : Option Exit) → m.exit ≡ o → IsSome m.exit → IsHistory p m (m ∷ states_after o [])
 one_state p m None is has = (refl, has)
 one_state p m (Some e) is has = (refl, has)
 
 states-are_by : (n : ℕ) (p : Program) (m : Moment) (o : Option Exit) → m.exit ≡ o
     → (IsSome (reached n p (step p m)).exit → IsHistory p (step p m) (states (suc n) p (step p m)))
-    → IsSome (reached (suc n) p m).exit → IsHistory p m (m ∷ later o (states (suc n) p (step p m)))
+    → IsSome (reached (suc n) p m).exit → IsHistory p m (m ∷ states_after o (states (suc n) p (step p m)))
 unfolding states
 states-are_by n p m (Some e) is rest has = (refl, is_some_of m.exit e is)
 states-are_by n p m None is rest has = (refl, is, rest (subst (λ (k : Moment). IsSome k.exit) (reached-step n p m is) has))
@@ -52,14 +52,14 @@ one_history p m (a ∷ (c ∷ ms)) (b ∷ (d ∷ ns)) h k =
     cc
 
 -- it has at most gas + 1 steps
-later-length : (o : Option Exit) (ms : List Moment) → length (later o ms) ≤ length ms
-later-length None ms = omega arith
-later-length (Some e) ms = omega arith
+states_after-length : (o : Option Exit) (ms : List Moment) → length (states_after o ms) ≤ length ms
+states_after-length None ms = omega arith
+states_after-length (Some e) ms = omega arith
 
 states-length : (n : ℕ) (p : Program) (m : Moment) → length (states n p m) ≤ n
 unfolding states
 states-length zero p m = omega arith
-states-length (suc n) p m = omega (arith, later-length m.exit (states n p (step p m)), states-length n p (step p m))
+states-length (suc n) p m = omega (arith, states_after-length m.exit (states n p (step p m)), states-length n p (step p m))
 
 pub history-short : (p : Program) (m : Moment) (ms : List Moment) → IsSchedule m.costs → IsHistory p m ms → length ms ≤ m.gas + 2
 history-short p m ms is h =
@@ -67,7 +67,7 @@ history-short p m ms is h =
     omega (arith, same, states-length (m.gas + 2) p m)
 
 -- the gas never rises in it
-first_is : (p : Program) (m n : Moment) (ms : List Moment) → IsHistory p m (n ∷ ms) → n ≡ m
+pub first_is : (p : Program) (m n : Moment) (ms : List Moment) → IsHistory p m (n ∷ ms) → n ≡ m
 first_is p m n [] h = h.0
 first_is p m n (o ∷ ms) h = h.0
 
@@ -92,28 +92,28 @@ some_exit : (o : Option Exit) → IsSome o → (e : Exit) × (o ≡ Some e)
 some_exit None has = absurd (false≢true has)
 some_exit (Some e) has = (e, refl)
 
-last_by : (n : ℕ) (p : Program) (m x : Moment) (ms : List Moment) → IsHistory p m ms → length ms ≤ n + 1 → last_of x ms ≡ reached n p m
+last_by : (n : ℕ) (p : Program) (m x : Moment) (ms : List Moment) → IsHistory p m ms → length ms ≤ n + 1 → last_state x ms ≡ reached n p m
 last_by n p m x [] h le = absurd h
 last_by n p m x (a ∷ []) h le = let end : (e : Exit) × (m.exit ≡ Some e) = some_exit m.exit h.1 in h.0 ∙ sym (reached-ended n p m end.0 end.1)
 last_by zero p m x (a ∷ (b ∷ ms)) h le = absurd (omega (arith, le))
 last_by (suc n) p m x (a ∷ (b ∷ ms)) h le = last_by n p (step p m) a (b ∷ ms) h.2 (omega (arith, le)) ∙ sym (reached-step n p m h.1)
 
-pub last_is : (p : Program) (m : Moment) (ms : List Moment) → IsSchedule m.costs → IsHistory p m ms → last_of m ms ≡ answer p m
+pub last_is : (p : Program) (m : Moment) (ms : List Moment) → IsSchedule m.costs → IsHistory p m ms → last_state m ms ≡ answer p m
 last_is p m ms is h = last_by (m.gas + 1) p m m ms h (omega (arith, history-short p m ms is h))
 
 -- ---- Gas
 
 -- a state with an exit is the last
-out_last : (p : Program) (b : Moment) (ms : List Moment) → IsHistory p b (b ∷ ms) → b.exit ≡ Some OutOfGas → (last_of b ms).exit ≡ Some OutOfGas
+out_last : (p : Program) (b : Moment) (ms : List Moment) → IsHistory p b (b ∷ ms) → b.exit ≡ Some OutOfGas → (last_state b ms).exit ≡ Some OutOfGas
 out_last p b [] h out = out
 out_last p b (c ∷ ms) h out = absurd (none_has b h.1 (is_some_of b.exit OutOfGas out))
 
 -- what is left and what the steps cost is what there was, where the run did not end out of gas
-pub gas_paid : (p : Program) (m x : Moment) (ms : List Moment) → IsHistory p m ms → ((last_of x ms).exit ≡ Some OutOfGas → ⊥) → costs_of p (before_last ms) + (last_of x ms).gas ≡ m.gas
+pub gas_paid : (p : Program) (m x : Moment) (ms : List Moment) → IsHistory p m ms → ((last_state x ms).exit ≡ Some OutOfGas → ⊥) → total_cost p (all_but_last ms) + (last_state x ms).gas ≡ m.gas
 gas_paid p m x [] h not = absurd h
 gas_paid p m x (a ∷ []) h not = let same : a.gas ≡ m.gas = ap (λ (k : Moment). k.gas) h.0 in omega arith
 gas_paid p m x (a ∷ (b ∷ ms)) h not =
     let second : b ≡ step p m = first_is p (step p m) b ms h.2 in
     let cost_same : cost p a ≡ cost p m = ap (cost p) h.0 in
-    let went : (cost p m ≤ m.gas) × ((step p m).gas ≡ m.gas - cost p m) = step-went p m (λ out. not (out_last p b ms (subst (λ (k : Moment). IsHistory p k (b ∷ ms)) (sym second) h.2) (ap (λ (k : Moment). k.exit) second ∙ out))) in
-    omega (arith, gas_paid p (step p m) a (b ∷ ms) h.2 not, cost_same, went)
+    let charged : (cost p m ≤ m.gas) × ((step p m).gas ≡ m.gas - cost p m) = step-charged p m (λ out. not (out_last p b ms (subst (λ (k : Moment). IsHistory p k (b ∷ ms)) (sym second) h.2) (ap (λ (k : Moment). k.exit) second ∙ out))) in
+    omega (arith, gas_paid p (step p m) a (b ∷ ms) h.2 not, cost_same, charged)

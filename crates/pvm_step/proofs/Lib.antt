@@ -4,4 +4,6 @@ mod Reached
 mod Turns
 mod Histories
 mod Named
+mod Watched
+mod Unpaid
 mod Grown

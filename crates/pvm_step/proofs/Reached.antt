@@ -4,8 +4,8 @@ use Rattle.gas_ledger.specs.Schedule.{Schedule, IsSchedule, plain}
 use Rattle.blob_decode.specs.Program.{Program, op_at}
 use Rattle.pvm_step.specs.declared.exit.Exit.{Exit}
 use Rattle.pvm_step.specs.declared.exit.Exit.TheVariants.{OutOfGas}
-use Rattle.pvm_step.specs.History.{Moment, cost, step, followed, reached, answer, later, states, costs_of, gain}
-use Rattle.pvm_step.proofs.Steps.{step-costs, step-went, step-gain, cost-paid, cost_of-plain}
+use Rattle.pvm_step.specs.History.{Moment, cost, step, followed, reached, answer, states_after, states, total_cost, gain}
+use Rattle.pvm_step.proofs.Steps.{step-costs, step-charged, step-gain, cost-paid, cost_of-plain}
 
 -- a state that has ended stays
 pub reached-ended : (n : ℕ) (p : Program) (m : Moment) (e : Exit) → m.exit ≡ Some e → reached n p m ≡ m
@@ -70,22 +70,22 @@ goes_by n p m (Some e) is going = absurd (has_no m e is (ap (λ (k : Moment). k.
 goes_by n p m None is going =
     let here : reached (suc n) p m ≡ reached n p (step p m) = reached-step n p m is in
     let on : (reached n p (step p m)).exit ≡ None = ap (λ (k : Moment). k.exit) (sym here) ∙ going in
-    let went : (cost p m ≤ m.gas) × ((step p m).gas ≡ m.gas - cost p m) =
-    step-went p m (λ out. has_no (reached n p (step p m)) OutOfGas (ap (λ (k : Moment). k.exit) (reached-ended n p (step p m) OutOfGas out) ∙ out) on) in
-    record { first = is; here = here; on = on; enough = went.0; paid = went.1 }
+    let charged : (cost p m ≤ m.gas) × ((step p m).gas ≡ m.gas - cost p m) =
+    step-charged p m (λ out. has_no (reached n p (step p m)) OutOfGas (ap (λ (k : Moment). k.exit) (reached-ended n p (step p m) OutOfGas out) ∙ out) on) in
+    record { first = is; here = here; on = on; enough = charged.0; paid = charged.1 }
 
 goes : (n : ℕ) (p : Program) (m : Moment) → (reached (suc n) p m).exit ≡ None → Goes n p m
 goes n p m going = goes_by n p m m.exit refl going
 
 -- the steps of a run that goes on cost what is gone
-pub costs_paid : (n : ℕ) (p : Program) (m : Moment) → (reached n p m).exit ≡ None → costs_of p (states n p m) + (reached n p m).gas ≡ m.gas
+pub costs_paid : (n : ℕ) (p : Program) (m : Moment) → (reached n p m).exit ≡ None → total_cost p (states n p m) + (reached n p m).gas ≡ m.gas
 unfolding states
 costs_paid zero p m going = let same : (reached 0 p m).gas ≡ m.gas = ap (λ (k : Moment). k.gas) (reached-none p m) in omega arith
 costs_paid (suc n) p m going =
     let g : Goes n p m = goes n p m going in
     let same : (reached (suc n) p m).gas ≡ (reached n p (step p m)).gas = ap (λ (k : Moment). k.gas) g.here in
-    let all : costs_of p (m ∷ later m.exit (states n p (step p m))) ≡ cost p m + costs_of p (states n p (step p m)) =
-    ap (λ o. cost p m + costs_of p (later o (states n p (step p m)))) g.first in
+    let all : total_cost p (m ∷ states_after m.exit (states n p (step p m))) ≡ cost p m + total_cost p (states n p (step p m)) =
+    ap (λ o. cost p m + total_cost p (states_after o (states n p (step p m)))) g.first in
     omega (arith, all, costs_paid n p (step p m) g.on, same, g.enough, g.paid)
 
 step-schedule : (p : Program) (m : Moment) → IsSchedule m.costs → IsSchedule (step p m).costs
@@ -132,10 +132,10 @@ gains_by n p m more (Some e) is rest not = reached-ended (suc n) p (gain more m)
 gains_by n p m more None is rest not =
     let here : reached (suc n) p m ≡ reached n p (step p m) = reached-step n p m is in
     let on : (reached n p (step p m)).exit ≡ Some OutOfGas → ⊥ = λ out. not (ap (λ (k : Moment). k.exit) here ∙ out) in
-    let went : (cost p m ≤ m.gas) × ((step p m).gas ≡ m.gas - cost p m) =
-    step-went p m (λ out. on (ap (λ (k : Moment). k.exit) (reached-ended n p (step p m) OutOfGas out) ∙ out)) in
+    let charged : (cost p m ≤ m.gas) × ((step p m).gas ≡ m.gas - cost p m) =
+    step-charged p m (λ out. on (ap (λ (k : Moment). k.exit) (reached-ended n p (step p m) OutOfGas out) ∙ out)) in
     reached-step n p (gain more m) is
-    ∙ ap (reached n p) (step-gain p m more went.0)
+    ∙ ap (reached n p) (step-gain p m more charged.0)
     ∙ rest on
     ∙ sym (ap (gain more) here)
 

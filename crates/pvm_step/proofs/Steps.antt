@@ -3,7 +3,7 @@ use Rattle.std.proofs.Common.{◌≡◌, ℕ, ◌+◌, ◌-◌, ◌<◌, ◌≤�
 use Rattle.std.specs.Prelude.{if◌then◌else◌}
 use Rattle.std.proofs.lemmas.Bool.{lt-ltb, le-ltb, cases_lt}
 use Rattle.gas_ledger.specs.Schedule.{Schedule, IsSchedule, plain, form_cost}
-use Rattle.gas_ledger.proofs.Costs.{form_cost-paid}
+use Rattle.gas_ledger.specs.ScheduleLaws.{form_cost-paid}
 use Rattle.pvm_isa.specs.declared.op.Op.{Op}
 use Rattle.pvm_isa.specs.declared.form.Form.{Form}
 use Rattle.pvm_isa.specs.declared.form.Form.TheVariants.{F1, F2, F3, F4, F5, F6, F7, F8, F9, F10, F11, F12, F13}
@@ -11,7 +11,7 @@ use Rattle.pvm_isa.specs.Opcodes.{form_of}
 use Rattle.blob_decode.specs.Program.{Program, op_at}
 use Rattle.pvm_step.specs.declared.exit.Exit.{Exit}
 use Rattle.pvm_step.specs.declared.exit.Exit.TheVariants.{OutOfGas}
-use Rattle.pvm_step.specs.Effect.{State, effect}
+use Rattle.pvm_step.specs.Effect.{MachineState, effect}
 use Rattle.pvm_step.specs.History.{Moment, form_number, cost_of, cost, step, gain}
 
 acted : Program → Moment → Moment
@@ -31,7 +31,7 @@ unfolding step acted short
 step-short p m less = ap (λ b. if b then short m else acted p m) (lt-ltb m.gas (cost p m) less)
 
 -- by what the code counts
-pub step-acts : (p : Program) (m : Moment) (t : State) (exit : Option Exit) (c left : ℕ) → c ≡ cost p m → c ≤ m.gas → left ≡ m.gas - c → record { state = t; exit = exit } ≡ effect p m.state
+pub step-acts : (p : Program) (m : Moment) (t : MachineState) (exit : Option Exit) (c left : ℕ) → c ≡ cost p m → c ≤ m.gas → left ≡ m.gas - c → record { state = t; exit = exit } ≡ effect p m.state
     → record { state = t; gas = left; costs = m.costs; exit = exit } ≡ step p m
 step-acts p m t exit c left is enough counts acts =
     let same : left ≡ m.gas - cost p m = omega arith in
@@ -57,8 +57,8 @@ step-gas p m = elim (enough_or_short p m) [
 ]
 
 -- where a step did not end out of gas, it paid its cost
-pub step-went : (p : Program) (m : Moment) → ((step p m).exit ≡ Some OutOfGas → ⊥) → (cost p m ≤ m.gas) × ((step p m).gas ≡ m.gas - cost p m)
-step-went p m not = elim (enough_or_short p m) [
+pub step-charged : (p : Program) (m : Moment) → ((step p m).exit ≡ Some OutOfGas → ⊥) → (cost p m ≤ m.gas) × ((step p m).gas ≡ m.gas - cost p m)
+step-charged p m not = elim (enough_or_short p m) [
   | inl enough ↦ (enough, ap (λ (n : Moment). n.gas) (step-paid p m enough))
   | inr less ↦ absurd (not (ap (λ (n : Moment). n.exit) (step-short p m less)))
 ]

@@ -21,13 +21,13 @@ pub record Heap : Type 0 where
   pub end : ℕ
 
 -- what an instruction reads and changes
-pub record State : Type 0 where
+pub record MachineState : Type 0 where
   pub pc : ℕ
   pub registers : List ℕ
   pub memory : Memory
   pub heap : Heap
 
-abbrev pub value_in : State → ℕ → ℕ
+abbrev pub value_in : MachineState → ℕ → ℕ
 value_in s register = get_or s.registers register 0
 
 abbrev pub address : ℕ → ℕ
@@ -41,7 +41,7 @@ pub data Act : Type 0 where
   -- it ends the run
   Exits : Exit → Act
   -- a register gets a value
-  Gives : ℕ → ℕ → Act
+  Sets : ℕ → ℕ → Act
   -- a register gets what the load of an opcode makes of the bytes at an address
   Loads : ℕ → Op → ℕ → Act
   -- so many bytes at an address get the low bytes of a value
@@ -53,9 +53,9 @@ pub data Act : Type 0 where
   -- it jumps through the jump table, by an address
   JumpsThrough : ℕ → Act
   -- a register gets a value, and then it jumps
-  GivesAndJumps : ℕ → ℕ → Option ℕ → Act
+  SetsAndJumps : ℕ → ℕ → Option ℕ → Act
   -- a register gets a value, and then it jumps through the jump table
-  GivesAndJumpsThrough : ℕ → ℕ → ℕ → Act
+  SetsAndJumpsThrough : ℕ → ℕ → ℕ → Act
   -- a register gets a value where the test holds
   Moves : Bool → ℕ → ℕ → Act
   -- the heap grows by an amount, and a register gets where its next byte was before
@@ -64,56 +64,56 @@ pub data Act : Type 0 where
 -- ---- Lines that opcodes have in common
 
 -- register D gets the operation's value of a, or of a and b; register A that of b and X
-abbrev pub gives_of_a : Op → Args → State → Act
-gives_of_a op a s = Gives a.d (unary op (value_in s a.a))
+abbrev pub sets_of_a : Op → Args → MachineState → Act
+sets_of_a op a s = Sets a.d (unary op (value_in s a.a))
 
-abbrev pub gives_of_a_b : Op → Args → State → Act
-gives_of_a_b op a s = Gives a.d (binary op (value_in s a.a) (value_in s a.b))
+abbrev pub sets_of_a_b : Op → Args → MachineState → Act
+sets_of_a_b op a s = Sets a.d (binary op (value_in s a.a) (value_in s a.b))
 
-abbrev pub gives_of_b_x : Op → Args → State → Act
-gives_of_b_x op a s = Gives a.a (binary op (value_in s a.b) a.x)
+abbrev pub sets_of_b_x : Op → Args → MachineState → Act
+sets_of_b_x op a s = Sets a.a (binary op (value_in s a.b) a.x)
 
 -- register A gets the bytes at X, or at b + X
-abbrev pub loads_at_x : Op → Args → State → Act
+abbrev pub loads_at_x : Op → Args → MachineState → Act
 loads_at_x op a s = Loads a.a op (address a.x)
 
-abbrev pub loads_at_b_x : Op → Args → State → Act
+abbrev pub loads_at_b_x : Op → Args → MachineState → Act
 loads_at_b_x op a s = Loads a.a op (address (value_in s a.b + a.x))
 
 -- so many bytes at X, at a + X or at b + X get those of Y or of a
-abbrev pub stores_y_at_x : ℕ → Args → State → Act
+abbrev pub stores_y_at_x : ℕ → Args → MachineState → Act
 stores_y_at_x width a s = Stores width (address a.x) a.y
 
-abbrev pub stores_a_at_x : ℕ → Args → State → Act
+abbrev pub stores_a_at_x : ℕ → Args → MachineState → Act
 stores_a_at_x width a s = Stores width (address a.x) (value_in s a.a)
 
-abbrev pub stores_y_at_a_x : ℕ → Args → State → Act
+abbrev pub stores_y_at_a_x : ℕ → Args → MachineState → Act
 stores_y_at_a_x width a s = Stores width (address (value_in s a.a + a.x)) a.y
 
-abbrev pub stores_a_at_b_x : ℕ → Args → State → Act
+abbrev pub stores_a_at_b_x : ℕ → Args → MachineState → Act
 stores_a_at_b_x width a s = Stores width (address (value_in s a.b + a.x)) (value_in s a.a)
 
 -- a jump to T where a compares so to X, or to b
-abbrev pub branches_on_a_x : Op → Args → State → Act
+abbrev pub branches_on_a_x : Op → Args → MachineState → Act
 branches_on_a_x op a s = Branches (test op (value_in s a.a) a.x) a.target
 
-abbrev pub branches_on_a_b : Op → Args → State → Act
+abbrev pub branches_on_a_b : Op → Args → MachineState → Act
 branches_on_a_b op a s = Branches (test op (value_in s a.a) (value_in s a.b)) a.target
 
 -- ---- The table of effects
 
-unfoldable pub line : Op → Args → State → Act
+unfoldable pub line : Op → Args → MachineState → Act
 line Trap = λ a s. Exits Panic
 line Fallthrough = λ a s. Nothing
 line Ecalli = λ a s. Exits (Host a.x)
-line LoadImm64 = λ a s. Gives a.a a.x
+line LoadImm64 = λ a s. Sets a.a a.x
 line StoreImmU8 = stores_y_at_x 1
 line StoreImmU16 = stores_y_at_x 2
 line StoreImmU32 = stores_y_at_x 4
 line StoreImmU64 = stores_y_at_x 8
 line Jump = λ a s. Jumps a.target
 line JumpInd = λ a s. JumpsThrough (address (value_in s a.a + a.x))
-line LoadImm = λ a s. Gives a.a a.x
+line LoadImm = λ a s. Sets a.a a.x
 line LoadU8 = loads_at_x LoadU8
 line LoadI8 = loads_at_x LoadI8
 line LoadU16 = loads_at_x LoadU16
@@ -129,7 +129,7 @@ line StoreImmIndU8 = stores_y_at_a_x 1
 line StoreImmIndU16 = stores_y_at_a_x 2
 line StoreImmIndU32 = stores_y_at_a_x 4
 line StoreImmIndU64 = stores_y_at_a_x 8
-line LoadImmJump = λ a s. GivesAndJumps a.a a.x a.target
+line LoadImmJump = λ a s. SetsAndJumps a.a a.x a.target
 line BranchEqImm = branches_on_a_x BranchEqImm
 line BranchNeImm = branches_on_a_x BranchNeImm
 line BranchLtUImm = branches_on_a_x BranchLtUImm
@@ -140,18 +140,18 @@ line BranchLtSImm = branches_on_a_x BranchLtSImm
 line BranchLeSImm = branches_on_a_x BranchLeSImm
 line BranchGeSImm = branches_on_a_x BranchGeSImm
 line BranchGtSImm = branches_on_a_x BranchGtSImm
-line MoveReg = λ a s. Gives a.d (value_in s a.a)
+line MoveReg = λ a s. Sets a.d (value_in s a.a)
 line Sbrk = λ a s. Grows a.d (value_in s a.a)
-line CountSetBits64 = gives_of_a CountSetBits64
-line CountSetBits32 = gives_of_a CountSetBits32
-line LeadingZeroBits64 = gives_of_a LeadingZeroBits64
-line LeadingZeroBits32 = gives_of_a LeadingZeroBits32
-line TrailingZeroBits64 = gives_of_a TrailingZeroBits64
-line TrailingZeroBits32 = gives_of_a TrailingZeroBits32
-line SignExtend8 = gives_of_a SignExtend8
-line SignExtend16 = gives_of_a SignExtend16
-line ZeroExtend16 = gives_of_a ZeroExtend16
-line ReverseBytes = gives_of_a ReverseBytes
+line CountSetBits64 = sets_of_a CountSetBits64
+line CountSetBits32 = sets_of_a CountSetBits32
+line LeadingZeroBits64 = sets_of_a LeadingZeroBits64
+line LeadingZeroBits32 = sets_of_a LeadingZeroBits32
+line TrailingZeroBits64 = sets_of_a TrailingZeroBits64
+line TrailingZeroBits32 = sets_of_a TrailingZeroBits32
+line SignExtend8 = sets_of_a SignExtend8
+line SignExtend16 = sets_of_a SignExtend16
+line ZeroExtend16 = sets_of_a ZeroExtend16
+line ReverseBytes = sets_of_a ReverseBytes
 line StoreIndU8 = stores_a_at_b_x 1
 line StoreIndU16 = stores_a_at_b_x 2
 line StoreIndU32 = stores_a_at_b_x 4
@@ -163,118 +163,118 @@ line LoadIndI16 = loads_at_b_x LoadIndI16
 line LoadIndU32 = loads_at_b_x LoadIndU32
 line LoadIndI32 = loads_at_b_x LoadIndI32
 line LoadIndU64 = loads_at_b_x LoadIndU64
-line AddImm32 = gives_of_b_x AddImm32
-line AndImm = gives_of_b_x AndImm
-line XorImm = gives_of_b_x XorImm
-line OrImm = gives_of_b_x OrImm
-line MulImm32 = gives_of_b_x MulImm32
-line SetLtUImm = gives_of_b_x SetLtUImm
-line SetLtSImm = gives_of_b_x SetLtSImm
-line ShloLImm32 = gives_of_b_x ShloLImm32
-line ShloRImm32 = gives_of_b_x ShloRImm32
-line SharRImm32 = gives_of_b_x SharRImm32
-line NegAddImm32 = gives_of_b_x NegAddImm32
-line SetGtUImm = gives_of_b_x SetGtUImm
-line SetGtSImm = gives_of_b_x SetGtSImm
-line ShloLImmAlt32 = gives_of_b_x ShloLImmAlt32
-line ShloRImmAlt32 = gives_of_b_x ShloRImmAlt32
-line SharRImmAlt32 = gives_of_b_x SharRImmAlt32
+line AddImm32 = sets_of_b_x AddImm32
+line AndImm = sets_of_b_x AndImm
+line XorImm = sets_of_b_x XorImm
+line OrImm = sets_of_b_x OrImm
+line MulImm32 = sets_of_b_x MulImm32
+line SetLtUImm = sets_of_b_x SetLtUImm
+line SetLtSImm = sets_of_b_x SetLtSImm
+line ShloLImm32 = sets_of_b_x ShloLImm32
+line ShloRImm32 = sets_of_b_x ShloRImm32
+line SharRImm32 = sets_of_b_x SharRImm32
+line NegAddImm32 = sets_of_b_x NegAddImm32
+line SetGtUImm = sets_of_b_x SetGtUImm
+line SetGtSImm = sets_of_b_x SetGtSImm
+line ShloLImmAlt32 = sets_of_b_x ShloLImmAlt32
+line ShloRImmAlt32 = sets_of_b_x ShloRImmAlt32
+line SharRImmAlt32 = sets_of_b_x SharRImmAlt32
 line CmovIzImm = λ a s. Moves (value_in s a.b == 0) a.a a.x
 line CmovNzImm = λ a s. Moves (not (value_in s a.b == 0)) a.a a.x
-line AddImm64 = gives_of_b_x AddImm64
-line MulImm64 = gives_of_b_x MulImm64
-line ShloLImm64 = gives_of_b_x ShloLImm64
-line ShloRImm64 = gives_of_b_x ShloRImm64
-line SharRImm64 = gives_of_b_x SharRImm64
-line NegAddImm64 = gives_of_b_x NegAddImm64
-line ShloLImmAlt64 = gives_of_b_x ShloLImmAlt64
-line ShloRImmAlt64 = gives_of_b_x ShloRImmAlt64
-line SharRImmAlt64 = gives_of_b_x SharRImmAlt64
-line RotR64Imm = gives_of_b_x RotR64Imm
-line RotR64ImmAlt = gives_of_b_x RotR64ImmAlt
-line RotR32Imm = gives_of_b_x RotR32Imm
-line RotR32ImmAlt = gives_of_b_x RotR32ImmAlt
+line AddImm64 = sets_of_b_x AddImm64
+line MulImm64 = sets_of_b_x MulImm64
+line ShloLImm64 = sets_of_b_x ShloLImm64
+line ShloRImm64 = sets_of_b_x ShloRImm64
+line SharRImm64 = sets_of_b_x SharRImm64
+line NegAddImm64 = sets_of_b_x NegAddImm64
+line ShloLImmAlt64 = sets_of_b_x ShloLImmAlt64
+line ShloRImmAlt64 = sets_of_b_x ShloRImmAlt64
+line SharRImmAlt64 = sets_of_b_x SharRImmAlt64
+line RotR64Imm = sets_of_b_x RotR64Imm
+line RotR64ImmAlt = sets_of_b_x RotR64ImmAlt
+line RotR32Imm = sets_of_b_x RotR32Imm
+line RotR32ImmAlt = sets_of_b_x RotR32ImmAlt
 line BranchEq = branches_on_a_b BranchEq
 line BranchNe = branches_on_a_b BranchNe
 line BranchLtU = branches_on_a_b BranchLtU
 line BranchLtS = branches_on_a_b BranchLtS
 line BranchGeU = branches_on_a_b BranchGeU
 line BranchGeS = branches_on_a_b BranchGeS
-line LoadImmJumpInd = λ a s. GivesAndJumpsThrough a.a a.x (address (value_in s a.b + a.y))
-line Add32 = gives_of_a_b Add32
-line Sub32 = gives_of_a_b Sub32
-line Mul32 = gives_of_a_b Mul32
-line DivU32 = gives_of_a_b DivU32
-line DivS32 = gives_of_a_b DivS32
-line RemU32 = gives_of_a_b RemU32
-line RemS32 = gives_of_a_b RemS32
-line ShloL32 = gives_of_a_b ShloL32
-line ShloR32 = gives_of_a_b ShloR32
-line SharR32 = gives_of_a_b SharR32
-line Add64 = gives_of_a_b Add64
-line Sub64 = gives_of_a_b Sub64
-line Mul64 = gives_of_a_b Mul64
-line DivU64 = gives_of_a_b DivU64
-line DivS64 = gives_of_a_b DivS64
-line RemU64 = gives_of_a_b RemU64
-line RemS64 = gives_of_a_b RemS64
-line ShloL64 = gives_of_a_b ShloL64
-line ShloR64 = gives_of_a_b ShloR64
-line SharR64 = gives_of_a_b SharR64
-line And = gives_of_a_b And
-line Xor = gives_of_a_b Xor
-line Or = gives_of_a_b Or
-line MulUpperSS = gives_of_a_b MulUpperSS
-line MulUpperUU = gives_of_a_b MulUpperUU
-line MulUpperSU = gives_of_a_b MulUpperSU
-line SetLtU = gives_of_a_b SetLtU
-line SetLtS = gives_of_a_b SetLtS
+line LoadImmJumpInd = λ a s. SetsAndJumpsThrough a.a a.x (address (value_in s a.b + a.y))
+line Add32 = sets_of_a_b Add32
+line Sub32 = sets_of_a_b Sub32
+line Mul32 = sets_of_a_b Mul32
+line DivU32 = sets_of_a_b DivU32
+line DivS32 = sets_of_a_b DivS32
+line RemU32 = sets_of_a_b RemU32
+line RemS32 = sets_of_a_b RemS32
+line ShloL32 = sets_of_a_b ShloL32
+line ShloR32 = sets_of_a_b ShloR32
+line SharR32 = sets_of_a_b SharR32
+line Add64 = sets_of_a_b Add64
+line Sub64 = sets_of_a_b Sub64
+line Mul64 = sets_of_a_b Mul64
+line DivU64 = sets_of_a_b DivU64
+line DivS64 = sets_of_a_b DivS64
+line RemU64 = sets_of_a_b RemU64
+line RemS64 = sets_of_a_b RemS64
+line ShloL64 = sets_of_a_b ShloL64
+line ShloR64 = sets_of_a_b ShloR64
+line SharR64 = sets_of_a_b SharR64
+line And = sets_of_a_b And
+line Xor = sets_of_a_b Xor
+line Or = sets_of_a_b Or
+line MulUpperSS = sets_of_a_b MulUpperSS
+line MulUpperUU = sets_of_a_b MulUpperUU
+line MulUpperSU = sets_of_a_b MulUpperSU
+line SetLtU = sets_of_a_b SetLtU
+line SetLtS = sets_of_a_b SetLtS
 line CmovIz = λ a s. Moves (value_in s a.b == 0) a.d (value_in s a.a)
 line CmovNz = λ a s. Moves (not (value_in s a.b == 0)) a.d (value_in s a.a)
-line RotL64 = gives_of_a_b RotL64
-line RotL32 = gives_of_a_b RotL32
-line RotR64 = gives_of_a_b RotR64
-line RotR32 = gives_of_a_b RotR32
-line AndInv = gives_of_a_b AndInv
-line OrInv = gives_of_a_b OrInv
-line Xnor = gives_of_a_b Xnor
-line Max = gives_of_a_b Max
-line MaxU = gives_of_a_b MaxU
-line Min = gives_of_a_b Min
-line MinU = gives_of_a_b MinU
+line RotL64 = sets_of_a_b RotL64
+line RotL32 = sets_of_a_b RotL32
+line RotR64 = sets_of_a_b RotR64
+line RotR32 = sets_of_a_b RotR32
+line AndInv = sets_of_a_b AndInv
+line OrInv = sets_of_a_b OrInv
+line Xnor = sets_of_a_b Xnor
+line Max = sets_of_a_b Max
+line MaxU = sets_of_a_b MaxU
+line Min = sets_of_a_b Min
+line MinU = sets_of_a_b MinU
 
 -- ---- What the kinds do
 
 -- the state after an instruction, and the exit, if it ends the run
 pub record After : Type 0 where
-  pub state : State
+  pub state : MachineState
   pub exit : Option Exit
 
-abbrev pub goes : State → ℕ → After
+abbrev pub goes : MachineState → ℕ → After
 goes s place = record { state = record s { pc = place }; exit = None }
 
 -- at an exit the pc stays
-abbrev pub stops : State → Exit → After
+abbrev pub stops : MachineState → Exit → After
 stops s exit = record { state = s; exit = Some exit }
 
-abbrev pub lands : State → Landing → After
+abbrev pub lands : MachineState → Landing → After
 lands s (to place) = goes s place
 lands s halts = stops s Halt
 lands s nowhere = stops s Panic
 
-abbrev pub given : State → ℕ → ℕ → State
-given s register value = record s { registers = set s.registers register value }
+abbrev pub with_register : MachineState → ℕ → ℕ → MachineState
+with_register s register value = record s { registers = set s.registers register value }
 
 -- a refused access panics below 65,536, and is a fault above
 abbrev pub exit_of : Access → Exit
 exit_of access.Low = Panic
 exit_of (access.Fault page) = Fault page
 
-abbrev pub loads : Program → State → ℕ → Op → Result ℕ Access → After
-loads p s register op (Ok raw) = goes (given s register (widen op raw)) (next p s.pc)
+abbrev pub loads : Program → MachineState → ℕ → Op → Result ℕ Access → After
+loads p s register op (Ok raw) = goes (with_register s register (widen op raw)) (next p s.pc)
 loads p s register op (Err refused) = stops s (exit_of refused)
 
-abbrev pub stores : Program → State → Memory → Option Access → After
+abbrev pub stores : Program → MachineState → Memory → Option Access → After
 stores p s stored None = goes (record s { memory = stored }) (next p s.pc)
 stores p s stored (Some refused) = stops s (exit_of refused)
 
@@ -283,42 +283,42 @@ abbrev pub pages_touched : ℕ → ℕ → ℕ
 pages_touched from past = (past + 4095) / 4096 - page_of from
 
 -- the heap's next byte is so much higher. The pages without rights that the bytes up to there touch can be written, and are 0
-abbrev pub grown : State → ℕ → State
+abbrev pub grown : MachineState → ℕ → MachineState
 grown s amount = record s {
   memory = lift_pages s.memory (page_of s.heap.next) (pages_touched s.heap.next (s.heap.next + amount));
   heap = record { next = s.heap.next + amount; end = s.heap.end };
 }
 
 -- it grows where the amount is not 0 and the heap has so much left; where it has not, the register gets 0
-abbrev pub grows : State → ℕ → ℕ → State
-grows s register amount = if amount == 0 then given s register s.heap.next
-    else if nat_lt s.heap.end (s.heap.next + amount) then given s register 0
-    else given (grown s amount) register s.heap.next
+abbrev pub grows : MachineState → ℕ → ℕ → MachineState
+grows s register amount = if amount == 0 then with_register s register s.heap.next
+    else if nat_lt s.heap.end (s.heap.next + amount) then with_register s register 0
+    else with_register (grown s amount) register s.heap.next
 
-unfoldable pub after : Program → State → Act → After
+unfoldable pub after : Program → MachineState → Act → After
 after p s Nothing = goes s (next p s.pc)
 after p s (Exits exit) = stops s exit
-after p s (Gives register value) = goes (given s register value) (next p s.pc)
+after p s (Sets register value) = goes (with_register s register value) (next p s.pc)
 after p s (Loads register op from) = loads p s register op (loaded s.memory from (loaded_bytes op))
 after p s (Stores width from value) = stores p s (put_bytes s.memory from (bytes_of width value)) (refusal s.memory may.Write from width)
 after p s (Jumps target) = lands s (jump_to p target)
 after p s (Branches taken target) = if taken then lands s (jump_to p target) else goes s (next p s.pc)
 after p s (JumpsThrough through) = lands s (jump_through p through)
-after p s (GivesAndJumps register value target) = lands (given s register value) (jump_to p target)
-after p s (GivesAndJumpsThrough register value through) = lands (given s register value) (jump_through p through)
-after p s (Moves holds register value) = goes (if holds then given s register value else s) (next p s.pc)
+after p s (SetsAndJumps register value target) = lands (with_register s register value) (jump_to p target)
+after p s (SetsAndJumpsThrough register value through) = lands (with_register s register value) (jump_through p through)
+after p s (Moves holds register value) = goes (if holds then with_register s register value else s) (next p s.pc)
 after p s (Grows register amount) = goes (grows s register amount) (next p s.pc)
 
 -- what the instruction of an opcode does at the pc
-abbrev pub act_of : Op → Program → State → Act
+abbrev pub act_of : Op → Program → MachineState → Act
 act_of op p s = line op (arguments (form_of op) p.code s.pc (skip p s.pc)) s
 
-unfoldable pub outcome : Op → Program → State → After
+unfoldable pub outcome : Op → Program → MachineState → After
 outcome op p s = after p s (act_of op p s)
 
 -- what the instruction at the pc does
-abbrev pub act_at : Program → State → Act
+abbrev pub act_at : Program → MachineState → Act
 act_at p s = act_of (op_at p s.pc) p s
 
-unfoldable pub effect : Program → State → After
+unfoldable pub effect : Program → MachineState → After
 effect p s = outcome (op_at p s.pc) p s

@@ -10,11 +10,11 @@ use Rattle.blob_decode.specs.Program.{Program, op_at}
 use Rattle.paged_memory.specs.PageMap.{readable, bytes_from}
 use Rattle.pvm_step.specs.declared.exit.Exit.{Exit}
 use Rattle.pvm_step.specs.declared.exit.Exit.TheVariants.{Halt, Panic, OutOfGas, Fault, Host}
-use Rattle.pvm_step.specs.Effect.{State, value_in, effect}
+use Rattle.pvm_step.specs.Effect.{MachineState, value_in, effect}
 
 -- a machine's state: what instructions read and change, the gas left, the schedule, and the exit, if it has ended
 pub record Moment : Type 0 where
-  pub state : State
+  pub state : MachineState
   pub gas : ℕ
   pub costs : Schedule
   pub exit : Option Exit
@@ -58,9 +58,9 @@ IsHistory p m [] = ⊥
 IsHistory p m (n ∷ []) = (n ≡ m) × IsSome m.exit
 IsHistory p m (n ∷ (o ∷ ms)) = (n ≡ m) × (m.exit ≡ None) × IsHistory p (step p m) (o ∷ ms)
 
-abbrev pub last_of : Moment → List Moment → Moment
-last_of m [] = m
-last_of m (n ∷ ms) = last_of n ms
+abbrev pub last_state : Moment → List Moment → Moment
+last_state m [] = m
+last_state m (n ∷ ms) = last_state n ms
 
 -- a state that has an exit stays as it is
 abbrev pub followed : Program → Option Exit → Moment → Moment
@@ -77,14 +77,14 @@ abbrev pub answer : Program → Moment → Moment
 answer p m = reached (m.gas + 1) p m
 
 -- the states after one: none where it has an exit
-abbrev pub later : Option Exit → List Moment → List Moment
-later None ms = ms
-later (Some exit) ms = []
+abbrev pub states_after : Option Exit → List Moment → List Moment
+states_after None ms = ms
+states_after (Some exit) ms = []
 
 -- the first so many states, or all where the run ends before
 unfoldable pub states : ℕ → Program → Moment → List Moment
 states zero p m = []
-states (suc n) p m = m ∷ later m.exit (states n p (step p m))
+states (suc n) p m = m ∷ states_after m.exit (states n p (step p m))
 
 -- the one list that is a history from a state
 abbrev pub history : Program → Moment → List Moment
@@ -93,15 +93,15 @@ history p m = states (m.gas + 2) p m
 -- ---- Gas
 
 -- what states cost together
-abbrev pub costs_of : Program → List Moment → ℕ
-costs_of p [] = 0
-costs_of p (m ∷ ms) = cost p m + costs_of p ms
+abbrev pub total_cost : Program → List Moment → ℕ
+total_cost p [] = 0
+total_cost p (m ∷ ms) = cost p m + total_cost p ms
 
 -- all but the last
-abbrev pub before_last : List Moment → List Moment
-before_last [] = []
-before_last (m ∷ []) = []
-before_last (m ∷ (n ∷ ms)) = m ∷ before_last (n ∷ ms)
+abbrev pub all_but_last : List Moment → List Moment
+all_but_last [] = []
+all_but_last (m ∷ []) = []
+all_but_last (m ∷ (n ∷ ms)) = m ∷ all_but_last (n ∷ ms)
 
 -- the gas never rises from a state to the next
 abbrev pub GasNeverRises : List Moment → Type 0
@@ -133,7 +133,7 @@ has_halted (Some (Host number)) = false
 has_halted None = false
 
 -- the r8 bytes at r7, where they may all be read; else nothing
-unfoldable pub output : State → List ℕ
+unfoldable pub output : MachineState → List ℕ
 output s = if readable s.memory (value_in s 7) (value_in s 8) then bytes_from s.memory (value_in s 7) (value_in s 8) else []
 
 -- the output of a state that halted; of another nothing

@@ -12,7 +12,7 @@ use Rattle.pvm_step.specs.declared.attempt.Attempt.{Attempt}
 use Rattle.pvm_step.specs.declared.attempt.Attempt.TheVariants.{Next, Jumped, Panics, Beyond}
 use Rattle.pvm_step.specs.declared.exit.Progress.{Progress}
 use Rattle.pvm_step.specs.declared.exit.Progress.TheVariants.{Ended, Paused}
-use Rattle.pvm_step.specs.Effect.{State, Heap, After}
+use Rattle.pvm_step.specs.Effect.{MachineState, Heap, After}
 use Rattle.pvm_step.specs.History.{Moment}
 
 -- a program with a place in it, registers, a memory, a heap, the gas left, and what instructions cost
@@ -40,7 +40,7 @@ pub record ChangesStateAlone (m n : Machine) : Type 0 where
   pub gas : n.gas ≡ m.gas
   pub costs : n.costs ≡ m.costs
 
-abbrev pub state_of : Machine → State
+abbrev pub state_of : Machine → MachineState
 state_of m = record { pc = m.pc; registers = m.registers; memory = m.memory; heap = m.heap }
 
 abbrev pub after_of : Machine → Option Exit → After

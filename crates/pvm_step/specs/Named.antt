@@ -3,19 +3,19 @@ use Rattle.std.specs.Prelude.{◌≡◌, ℕ, ◌+◌, ◌<◌, ◌≤◌, Bool,
 use Rattle.pvm_isa.specs.declared.op.Op.{Op}
 use Rattle.pvm_isa.specs.declared.op.Op.TheVariants.{Ecalli, StoreImmU8, StoreImmU16, StoreImmU32, StoreImmU64, JumpInd, LoadU8, LoadI8, LoadU16, LoadI16, LoadU32, LoadI32, LoadU64, StoreU8, StoreU16, StoreU32, StoreU64, StoreImmIndU8, StoreImmIndU16, StoreImmIndU32, StoreImmIndU64, Sbrk, StoreIndU8, StoreIndU16, StoreIndU32, StoreIndU64, LoadIndU8, LoadIndI8, LoadIndU16, LoadIndI16, LoadIndU32, LoadIndI32, LoadIndU64, LoadImmJumpInd}
 use Rattle.paged_memory.specs.PageMap.{Page, Write, page_of, blank, addresses}
-use Rattle.pvm_step.specs.Effect.{State, Act, Nothing, Exits, Gives, Loads, Stores, Jumps, Branches, JumpsThrough, GivesAndJumps, GivesAndJumpsThrough, Moves, Grows}
+use Rattle.pvm_step.specs.Effect.{MachineState, Act, Nothing, Exits, Sets, Loads, Stores, Jumps, Branches, JumpsThrough, SetsAndJumps, SetsAndJumpsThrough, Moves, Grows}
 
 abbrev pub register_of : Act → Option ℕ
 register_of Nothing = None
 register_of (Exits exit) = None
-register_of (Gives register value) = Some register
+register_of (Sets register value) = Some register
 register_of (Loads register op from) = Some register
 register_of (Stores width to value) = None
 register_of (Jumps target) = None
 register_of (Branches taken target) = None
 register_of (JumpsThrough through) = None
-register_of (GivesAndJumps register value target) = Some register
-register_of (GivesAndJumpsThrough register value through) = Some register
+register_of (SetsAndJumps register value target) = Some register
+register_of (SetsAndJumpsThrough register value through) = Some register
 register_of (Moves holds register value) = Some register
 register_of (Grows register amount) = Some register
 
@@ -31,7 +31,7 @@ changes_memory (Grows register amount) = true
 changes_memory act = false
 
 -- a page has one of so many bytes from the heap's next one on
-abbrev pub Touches : State → ℕ → ℕ → Type 0
+abbrev pub Touches : MachineState → ℕ → ℕ → Type 0
 Touches s amount page = (address : ℕ) × (s.heap.next ≤ address) × (address < s.heap.next + amount) × (page_of address ≡ page)
 
 -- a page that may be written, with bytes 0

@@ -8,7 +8,6 @@ ghost use Rattle.pvm_step.specs.Effect.{Grows, loads_at_x, loads_at_b_x, stores_
 ghost use Rattle.pvm_step.specs.Machine.{IsAt, ChangesStateAlone, state_of, after_of};
 
 use crate::address::{address, address_from};
-use crate::at::At;
 use crate::exit::Exit;
 use crate::machine::Machine;
 use pvm_isa::{
@@ -24,18 +23,21 @@ impl Machine {
         &mut self,
         op: Op,
         width: u8,
-        at: At,
+        pc: u64,
+        next: u64,
+        skip: u8,
+        bytes: u64,
     ) -> Result<Option<Exit>, AllocError>
         requires loads { IsTrue (alu.is_load op) }
         requires width { alu.loaded_bytes op ≡ width }
         requires size { IsTrue (is_width width) }
-        requires at { IsAt at.pc at.next at.skip at.bytes self.old }
-        ensures acts { IfOk result (λ exit. after_of self.new exit ≡ after self.old.program (state_of self.old) (loads_at_x op (arguments F6 self.old.program.code self.old.pc at.skip) (state_of self.old))) }
+        requires at { IsAt pc next skip bytes self.old }
+        ensures acts { IfOk result (λ exit. after_of self.new exit ≡ after self.old.program (state_of self.old) (loads_at_x op (arguments F6 self.old.program.code self.old.pc skip) (state_of self.old))) }
         ensures made { IsOk result }
         ensures rest { ChangesStateAlone self.old self.new }
     {
-        let args = register_and_immediate(self.program.code(), at.pc, at.skip);
-        Ok(self.load(args.a, op, width, address(args.x), at.next))
+        let args = register_and_immediate(self.program.code(), pc, skip);
+        Ok(self.load(args.a, op, width, address(args.x), next))
     }
 
     /// A load at an address in a register, with an offset.
@@ -44,88 +46,125 @@ impl Machine {
         &mut self,
         op: Op,
         width: u8,
-        at: At,
+        pc: u64,
+        next: u64,
+        skip: u8,
+        bytes: u64,
     ) -> Result<Option<Exit>, AllocError>
         requires loads { IsTrue (alu.is_load op) }
         requires width { alu.loaded_bytes op ≡ width }
         requires size { IsTrue (is_width width) }
-        requires at { IsAt at.pc at.next at.skip at.bytes self.old }
-        ensures acts { IfOk result (λ exit. after_of self.new exit ≡ after self.old.program (state_of self.old) (loads_at_b_x op (arguments F10 self.old.program.code self.old.pc at.skip) (state_of self.old))) }
+        requires at { IsAt pc next skip bytes self.old }
+        ensures acts { IfOk result (λ exit. after_of self.new exit ≡ after self.old.program (state_of self.old) (loads_at_b_x op (arguments F10 self.old.program.code self.old.pc skip) (state_of self.old))) }
         ensures made { IsOk result }
         ensures rest { ChangesStateAlone self.old self.new }
     {
-        let args = two_registers_and_immediate(self.program.code(), at.pc, at.skip);
+        let args = two_registers_and_immediate(self.program.code(), pc, skip);
         let from = address_from(self.value(args.b), args.x);
-        Ok(self.load(args.a, op, width, from, at.next))
+        Ok(self.load(args.a, op, width, from, next))
     }
 
     /// A store of an immediate at an immediate address.
     #[inline(never)]
-    pub(crate) fn store_y_at_x(&mut self, width: u8, at: At) -> Result<Option<Exit>, AllocError>
+    pub(crate) fn store_y_at_x(
+        &mut self,
+        width: u8,
+        pc: u64,
+        next: u64,
+        skip: u8,
+        bytes: u64,
+    ) -> Result<Option<Exit>, AllocError>
         requires size { IsTrue (is_width width) }
-        requires at { IsAt at.pc at.next at.skip at.bytes self.old }
-        ensures acts { IfOk result (λ exit. after_of self.new exit ≡ after self.old.program (state_of self.old) (stores_y_at_x width (arguments F4 self.old.program.code self.old.pc at.skip) (state_of self.old))) }
+        requires at { IsAt pc next skip bytes self.old }
+        ensures acts { IfOk result (λ exit. after_of self.new exit ≡ after self.old.program (state_of self.old) (stores_y_at_x width (arguments F4 self.old.program.code self.old.pc skip) (state_of self.old))) }
         ensures rest { ChangesStateAlone self.old self.new }
         ensures err { OnErr result (self.new ≡ self.old) }
     {
-        let args = two_immediates(self.program.code(), at.pc, at.skip);
-        self.store(width, address(args.x), args.y, at.next)
+        let args = two_immediates(self.program.code(), pc, skip);
+        self.store(width, address(args.x), args.y, next)
     }
 
     /// A store of a register at an immediate address.
     #[inline(never)]
-    pub(crate) fn store_a_at_x(&mut self, width: u8, at: At) -> Result<Option<Exit>, AllocError>
+    pub(crate) fn store_a_at_x(
+        &mut self,
+        width: u8,
+        pc: u64,
+        next: u64,
+        skip: u8,
+        bytes: u64,
+    ) -> Result<Option<Exit>, AllocError>
         requires size { IsTrue (is_width width) }
-        requires at { IsAt at.pc at.next at.skip at.bytes self.old }
-        ensures acts { IfOk result (λ exit. after_of self.new exit ≡ after self.old.program (state_of self.old) (stores_a_at_x width (arguments F6 self.old.program.code self.old.pc at.skip) (state_of self.old))) }
+        requires at { IsAt pc next skip bytes self.old }
+        ensures acts { IfOk result (λ exit. after_of self.new exit ≡ after self.old.program (state_of self.old) (stores_a_at_x width (arguments F6 self.old.program.code self.old.pc skip) (state_of self.old))) }
         ensures rest { ChangesStateAlone self.old self.new }
         ensures err { OnErr result (self.new ≡ self.old) }
     {
-        let args = register_and_immediate(self.program.code(), at.pc, at.skip);
+        let args = register_and_immediate(self.program.code(), pc, skip);
         let value = self.value(args.a);
-        self.store(width, address(args.x), value, at.next)
+        self.store(width, address(args.x), value, next)
     }
 
     /// A store of an immediate at an address in a register, with an offset.
     #[inline(never)]
-    pub(crate) fn store_y_at_a_x(&mut self, width: u8, at: At) -> Result<Option<Exit>, AllocError>
+    pub(crate) fn store_y_at_a_x(
+        &mut self,
+        width: u8,
+        pc: u64,
+        next: u64,
+        skip: u8,
+        bytes: u64,
+    ) -> Result<Option<Exit>, AllocError>
         requires size { IsTrue (is_width width) }
-        requires at { IsAt at.pc at.next at.skip at.bytes self.old }
-        ensures acts { IfOk result (λ exit. after_of self.new exit ≡ after self.old.program (state_of self.old) (stores_y_at_a_x width (arguments F7 self.old.program.code self.old.pc at.skip) (state_of self.old))) }
+        requires at { IsAt pc next skip bytes self.old }
+        ensures acts { IfOk result (λ exit. after_of self.new exit ≡ after self.old.program (state_of self.old) (stores_y_at_a_x width (arguments F7 self.old.program.code self.old.pc skip) (state_of self.old))) }
         ensures rest { ChangesStateAlone self.old self.new }
         ensures err { OnErr result (self.new ≡ self.old) }
     {
-        let args = register_and_two_immediates(self.program.code(), at.pc, at.skip);
+        let args = register_and_two_immediates(self.program.code(), pc, skip);
         let to = address_from(self.value(args.a), args.x);
-        self.store(width, to, args.y, at.next)
+        self.store(width, to, args.y, next)
     }
 
     /// A store of a register at an address in another, with an offset.
     #[inline(never)]
-    pub(crate) fn store_a_at_b_x(&mut self, width: u8, at: At) -> Result<Option<Exit>, AllocError>
+    pub(crate) fn store_a_at_b_x(
+        &mut self,
+        width: u8,
+        pc: u64,
+        next: u64,
+        skip: u8,
+        bytes: u64,
+    ) -> Result<Option<Exit>, AllocError>
         requires size { IsTrue (is_width width) }
-        requires at { IsAt at.pc at.next at.skip at.bytes self.old }
-        ensures acts { IfOk result (λ exit. after_of self.new exit ≡ after self.old.program (state_of self.old) (stores_a_at_b_x width (arguments F10 self.old.program.code self.old.pc at.skip) (state_of self.old))) }
+        requires at { IsAt pc next skip bytes self.old }
+        ensures acts { IfOk result (λ exit. after_of self.new exit ≡ after self.old.program (state_of self.old) (stores_a_at_b_x width (arguments F10 self.old.program.code self.old.pc skip) (state_of self.old))) }
         ensures rest { ChangesStateAlone self.old self.new }
         ensures err { OnErr result (self.new ≡ self.old) }
     {
-        let args = two_registers_and_immediate(self.program.code(), at.pc, at.skip);
+        let args = two_registers_and_immediate(self.program.code(), pc, skip);
         let to = address_from(self.value(args.b), args.x);
         let value = self.value(args.a);
-        self.store(width, to, value, at.next)
+        self.store(width, to, value, next)
     }
 
     /// More heap.
     #[inline(never)]
-    pub(crate) fn sbrk(&mut self, at: At) -> Result<Option<Exit>, AllocError>
-        requires at { IsAt at.pc at.next at.skip at.bytes self.old }
-        ensures acts { IfOk result (λ exit. after_of self.new exit ≡ after self.old.program (state_of self.old) (Grows (arguments F9 self.old.program.code self.old.pc at.skip).d (value_in (state_of self.old) (arguments F9 self.old.program.code self.old.pc at.skip).a))) }
+    pub(crate) fn sbrk(
+        &mut self,
+        pc: u64,
+        next: u64,
+        skip: u8,
+        bytes: u64,
+    ) -> Result<Option<Exit>, AllocError>
+        requires at { IsAt pc next skip bytes self.old }
+        ensures acts { IfOk result (λ exit. after_of self.new exit ≡ after self.old.program (state_of self.old) (Grows (arguments F9 self.old.program.code self.old.pc skip).d (value_in (state_of self.old) (arguments F9 self.old.program.code self.old.pc skip).a))) }
         ensures rest { ChangesStateAlone self.old self.new }
         ensures err { OnErr result (self.new ≡ self.old) }
     {
-        let args = two_registers(self.program.code(), at.pc);
+        let args = two_registers(self.program.code(), pc);
         let amount = self.value(args.a);
-        self.grow(args.d, amount, at.next)?;
+        self.grow(args.d, amount, next)?;
         Ok(None)
     }
 }

@@ -7,12 +7,11 @@ ghost use Rattle.pvm_isa.specs.declared.op.Op.TheVariants.{Fallthrough, Jump, Lo
 ghost use Rattle.blob_decode.specs.Program as blob;
 ghost use Rattle.pvm_alu.specs.Alu as alu;
 ghost use Rattle.pvm_step.specs.declared.exit.Exit.TheVariants.{Host};
-ghost use Rattle.pvm_step.specs.Effect.{Exits, JumpsThrough, GivesAndJumpsThrough, branches_on_a_x, branches_on_a_b, line, after, address, value_in, outcome};
+ghost use Rattle.pvm_step.specs.Effect.{Exits, JumpsThrough, SetsAndJumpsThrough, branches_on_a_x, branches_on_a_b, line, after, address, value_in, outcome};
 ghost use Rattle.pvm_step.specs.declared.attempt.Attempt.TheVariants.{Next};
 ghost use Rattle.pvm_step.specs.Machine.{IsAt, ChangesStateAlone, state_of, after_of, exit_after, is_done};
 
 use crate::address::address_from;
-use crate::at::At;
 use crate::attempt::Attempt;
 use crate::exit::Exit;
 use crate::machine::Machine;
@@ -28,27 +27,27 @@ impl Machine {
     /// Nothing.
     #[inline(always)]
     #[tactic(auto, unfolding(crate::specs::Effect::outcome, crate::specs::Effect::line, crate::specs::Effect::after, pvm_isa::specs::Opcodes::entry))]
-    pub(crate) fn fall_through(&mut self, at: At) -> Attempt
-        requires at { IsAt at.pc at.next at.skip at.bytes self.old }
+    pub(crate) fn fall_through(&mut self, pc: u64, next: u64, skip: u8, bytes: u64) -> Attempt
+        requires at { IsAt pc next skip bytes self.old }
         ensures acts { after_of self.new (exit_after result) ≡ outcome Fallthrough self.old.program (state_of self.old) }
         ensures next { result ≡ Next → self.new.pc ≡ blob.next self.old.program self.old.pc }
         ensures done { is_done result ≡ true }
         ensures rest { ChangesStateAlone self.old self.new }
     {
         let _code = self.program.code();
-        self.go_on(at.next);
+        self.go_on(next);
         Attempt::Next
     }
 
     /// A host call.
     #[inline(always)]
     #[tactic(auto, unfolding(crate::specs::Effect::after))]
-    pub(crate) fn call_host(&mut self, at: At) -> Option<Exit>
-        requires at { IsAt at.pc at.next at.skip at.bytes self.old }
-        ensures acts { after_of self.new result ≡ after self.old.program (state_of self.old) (Exits (Host (arguments F2 self.old.program.code self.old.pc at.skip).x)) }
+    pub(crate) fn call_host(&mut self, pc: u64, next: u64, skip: u8, bytes: u64) -> Option<Exit>
+        requires at { IsAt pc next skip bytes self.old }
+        ensures acts { after_of self.new result ≡ after self.old.program (state_of self.old) (Exits (Host (arguments F2 self.old.program.code self.old.pc skip).x)) }
         ensures rest { ChangesStateAlone self.old self.new }
     {
-        let args = one_immediate(self.program.code(), at.pc, at.skip);
+        let args = one_immediate(self.program.code(), pc, skip);
         Some(Exit::Host(args.x))
     }
 
@@ -69,13 +68,19 @@ impl Machine {
     /// A jump through the jump table.
     #[inline(never)]
     #[tactic(auto, unfolding(crate::specs::Effect::after))]
-    pub(crate) fn jump_ind(&mut self, at: At) -> Result<Option<Exit>, AllocError>
-        requires at { IsAt at.pc at.next at.skip at.bytes self.old }
-        ensures acts { IfOk result (λ exit. after_of self.new exit ≡ after self.old.program (state_of self.old) (JumpsThrough (address ((value_in (state_of self.old) (arguments F6 self.old.program.code self.old.pc at.skip).a) + (arguments F6 self.old.program.code self.old.pc at.skip).x)))) }
+    pub(crate) fn jump_ind(
+        &mut self,
+        pc: u64,
+        next: u64,
+        skip: u8,
+        bytes: u64,
+    ) -> Result<Option<Exit>, AllocError>
+        requires at { IsAt pc next skip bytes self.old }
+        ensures acts { IfOk result (λ exit. after_of self.new exit ≡ after self.old.program (state_of self.old) (JumpsThrough (address ((value_in (state_of self.old) (arguments F6 self.old.program.code self.old.pc skip).a) + (arguments F6 self.old.program.code self.old.pc skip).x)))) }
         ensures made { IsOk result }
         ensures rest { ChangesStateAlone self.old self.new }
     {
-        let args = register_and_immediate(self.program.code(), at.pc, at.skip);
+        let args = register_and_immediate(self.program.code(), pc, skip);
         let through = address_from(self.value(args.a), args.x);
         Ok(self.jump_through(through))
     }
@@ -99,13 +104,19 @@ impl Machine {
     /// A jump through the jump table by a register's old value, after a register got an immediate.
     #[inline(never)]
     #[tactic(auto, unfolding(crate::specs::Effect::after))]
-    pub(crate) fn load_imm_jump_ind(&mut self, at: At) -> Result<Option<Exit>, AllocError>
-        requires at { IsAt at.pc at.next at.skip at.bytes self.old }
-        ensures acts { IfOk result (λ exit. after_of self.new exit ≡ after self.old.program (state_of self.old) (GivesAndJumpsThrough (arguments F12 self.old.program.code self.old.pc at.skip).a (arguments F12 self.old.program.code self.old.pc at.skip).x (address ((value_in (state_of self.old) (arguments F12 self.old.program.code self.old.pc at.skip).b) + (arguments F12 self.old.program.code self.old.pc at.skip).y)))) }
+    pub(crate) fn load_imm_jump_ind(
+        &mut self,
+        pc: u64,
+        next: u64,
+        skip: u8,
+        bytes: u64,
+    ) -> Result<Option<Exit>, AllocError>
+        requires at { IsAt pc next skip bytes self.old }
+        ensures acts { IfOk result (λ exit. after_of self.new exit ≡ after self.old.program (state_of self.old) (SetsAndJumpsThrough (arguments F12 self.old.program.code self.old.pc skip).a (arguments F12 self.old.program.code self.old.pc skip).x (address ((value_in (state_of self.old) (arguments F12 self.old.program.code self.old.pc skip).b) + (arguments F12 self.old.program.code self.old.pc skip).y)))) }
         ensures made { IsOk result }
         ensures rest { ChangesStateAlone self.old self.new }
     {
-        let args = two_registers_and_two_immediates(self.program.code(), at.pc, at.skip);
+        let args = two_registers_and_two_immediates(self.program.code(), pc, skip);
         let by = address_from(self.value(args.b), args.y);
         self.set(args.a, args.x);
         Ok(self.jump_through(by))

@@ -4,7 +4,7 @@ ghost use Rattle.blob_decode.specs.Program as blob;
 ghost use Rattle.blob_decode.specs.Program.{jump_to, jump_through};
 ghost use Rattle.paged_memory.specs.PageMap.{is_width};
 ghost use Rattle.pvm_alu.specs.Alu as alu;
-ghost use Rattle.pvm_step.specs.Effect.{Gives, Loads, Stores, Branches, Moves, Grows, after, lands, grown, value_in, exit_of};
+ghost use Rattle.pvm_step.specs.Effect.{Sets, Loads, Stores, Branches, Moves, Grows, after, lands, grown, value_in, exit_of};
 ghost use Rattle.pvm_step.specs.declared.attempt.Attempt.TheVariants.{Next};
 ghost use Rattle.pvm_step.specs.Machine.{ChangesStateAlone, state_of, after_of, exit_after, is_done};
 
@@ -51,10 +51,10 @@ impl Machine {
     /// Sets a register, and goes to the next instruction.
     #[inline(always)]
     #[tactic(auto, unfolding(crate::specs::Effect::after))]
-    pub(crate) fn give(&mut self, register: u8, value: u64, next: u64)
+    pub(crate) fn set_and_go_on(&mut self, register: u8, value: u64, next: u64)
         requires register { register < 13 }
         requires next { next ≡ blob.next self.old.program self.old.pc }
-        ensures acts { after_of self.new None ≡ after self.old.program (state_of self.old) (Gives register value) }
+        ensures acts { after_of self.new None ≡ after self.old.program (state_of self.old) (Sets register value) }
         ensures next { self.new.pc ≡ blob.next self.old.program self.old.pc }
         ensures rest { ChangesStateAlone self.old self.new }
     {
@@ -99,7 +99,7 @@ impl Machine {
     {
         match self.memory.load(from, width) {
             Ok(raw) => {
-                self.give(register, widen(op, raw), next);
+                self.set_and_go_on(register, widen(op, raw), next);
                 None
             }
             Err(access) => Some(exit_of(access)),
@@ -224,12 +224,12 @@ impl Machine {
         let from = self.heap.next();
         let room = self.heap.end() - from;
         if amount == 0 {
-            self.give(register, from, next);
+            self.set_and_go_on(register, from, next);
         } else if amount > room {
-            self.give(register, 0, next);
+            self.set_and_go_on(register, 0, next);
         } else {
             self.lift(amount)?;
-            self.give(register, from, next);
+            self.set_and_go_on(register, from, next);
         }
         Ok(())
     }

@@ -4,7 +4,6 @@
 mod accesses;
 mod act;
 mod address;
-mod at;
 mod attempt;
 mod control;
 mod effects;
@@ -14,8 +13,10 @@ mod heap;
 mod laws;
 mod machine;
 mod operations;
+mod watcher;
 
 pub use exit::{Exit, HostStep, Progress};
 pub use heap::Heap;
 pub use laws::{effect_laws, history_laws, run_laws};
 pub use machine::Machine;
+pub use watcher::{PaidInstruction, Watcher};

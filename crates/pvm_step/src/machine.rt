@@ -1,21 +1,23 @@
 // A machine that runs a program.
-ghost use Rattle.std.specs.Prelude.{◌≡◌, ◌<◌, ◌≤◌, ℕ, true, false, None, Some, length, replicate, IfOk, IfSome, IfNone, OnErr};
+ghost use Rattle.std.specs.Prelude.{◌≡◌, ◌<◌, ◌≤◌, ◌+◌, ℕ, true, false, None, Some, length, replicate, IfOk, IfSome, IfNone, OnErr};
 ghost use Rattle.std.specs.FinMap as fin;
 ghost use Rattle.gas_ledger.specs.Schedule.{plain};
 ghost use Rattle.pvm_isa.specs.declared.op.Op.TheVariants.{Ecalli};
 ghost use Rattle.blob_decode.specs.Program.{op_at, next};
+ghost use Rattle.blob_decode.specs.Fetched.{IsFetched};
 ghost use Rattle.pvm_step.specs.Effect.{effect, act_at};
-ghost use Rattle.pvm_step.specs.History.{cost_of, step, reached, output};
-ghost use Rattle.pvm_step.specs.Machine.{IsAt, ChangesStateAlone, state_of, after_of, moment, with_gas, exit_in, exit_after, is_done};
+ghost use Rattle.pvm_step.specs.History.{cost_of, step, reached, states, output};
+ghost use Rattle.pvm_step.specs.Machine.{ChangesStateAlone, state_of, after_of, moment, with_gas, exit_in, exit_after, is_done};
 ghost use Rattle.pvm_step.specs.Named.{on_registers, changes_memory};
+ghost use Rattle.pvm_step.specs.Watched.{paid_at, paid_instructions, WasTold};
 ghost use Rattle.pvm_step.specs.declared.attempt.Attempt.TheVariants.{Next};
 ghost use Rattle.pvm_step.specs.declared.exit.Exit.TheVariants.{OutOfGas};
 
-use crate::at::At;
 use crate::attempt::Attempt;
 use crate::exit::{Exit, Progress};
 use crate::form::number_of_form;
 use crate::heap::Heap;
+use crate::watcher::{Blind, PaidInstruction, Watcher};
 use blob_decode::{Fetched, Program};
 use gas_ledger::{Ledger, Schedule};
 use paged_memory::Memory;
@@ -87,53 +89,34 @@ impl Machine {
 
     // The instruction at the pc; none past the code.
     #[inline(always)]
-    fn look(&self, pc: u64) -> Option<At>
+    fn look(&self, pc: u64) -> Option<Fetched>
         requires { pc ≡ self.now.pc }
         ensures past { IfNone result (length self.now.program.code ≤ self.now.pc) }
-        ensures op { IfSome result (λ at. at.op ≡ op_at self.now.program self.now.pc) }
-        ensures at { IfSome result (λ at. IsAt at.pc at.next at.skip at.bytes self.now) }
+        ensures found { IfSome result (IsFetched self.now.program self.now.pc) }
     {
-        match self.program.fetch(pc) {
-            Some(
-                Fetched {
-                    op,
-                    skip,
-                    next,
-                    bytes,
-                },
-            ) => Some(At {
-                op,
-                pc,
-                next,
-                skip,
-                bytes,
-            }),
-            None => None,
-        }
+        self.program.fetch(pc)
     }
 
     // The instruction, where it works on the registers alone. Else nothing.
     #[inline(always)]
     #[tactic(auto, unfolding(crate::specs::Effect::effect))]
-    fn attempt(&mut self, at: At) -> Attempt
-        requires op { at.op ≡ op_at self.old.program self.old.pc }
-        requires at { IsAt at.pc at.next at.skip at.bytes self.old }
+    fn attempt(&mut self, at: Fetched) -> Attempt
+        requires { IsFetched self.old.program self.old.pc at }
         ensures made { is_done result ≡ true → after_of self.new (exit_after result) ≡ effect self.old.program (state_of self.old) }
         ensures next { result ≡ Next → self.new.pc ≡ at.next }
         ensures same { result ≡ Attempt.Beyond → self.new ≡ self.old }
-        ensures kind { result ≡ Attempt.Beyond → on_registers at.op ≡ false }
+        ensures beyond { result ≡ Attempt.Beyond → on_registers at.op ≡ false }
         ensures rest { ChangesStateAlone self.old self.new }
     {
-        self.act_on_registers(at)
+        self.act_on_registers(at.op, at.pc, at.next, at.skip, at.bytes)
     }
 
     // Another instruction.
     #[inline(always)]
     #[tactic(auto, unfolding(crate::specs::Effect::effect))]
-    fn go_beyond(&mut self, at: At) -> Result<Option<Exit>, AllocError>
-        requires op { at.op ≡ op_at self.old.program self.old.pc }
-        requires kind { on_registers at.op ≡ false }
-        requires at { IsAt at.pc at.next at.skip at.bytes self.old }
+    fn go_beyond(&mut self, at: Fetched) -> Result<Option<Exit>, AllocError>
+        requires at { IsFetched self.old.program self.old.pc at }
+        requires beyond { on_registers at.op ≡ false }
         ensures effect { IfOk result (λ exit. after_of self.new exit ≡ effect self.old.program (state_of self.old)) }
         ensures rest { ChangesStateAlone self.old self.new }
         ensures err { OnErr result (self.new ≡ self.old) }
@@ -156,28 +139,47 @@ impl Machine {
         }
     }
 
-    // What is left of the gas at a place past the code, and the exit there.
+    // What is left of the gas at a place past the code, and the exit there. The watcher is told, where the gas pays.
     #[cold]
     #[inline(never)]
-    fn trap_past_code<const PLAIN: bool>(&self, left: u64) -> (u64, Exit)
+    fn trap_past_code<const PLAIN: bool, W: Watcher>(
+        &self,
+        number: u64,
+        left: u64,
+        watcher: &mut W,
+    ) -> (u64, Exit)
         requires past { length self.now.program.code ≤ self.now.pc }
         requires plain { PLAIN ≡ true → self.now.costs.forms ≡ plain.forms }
         ensures step { with_gas self.now result.0 (Some result.1) ≡ step self.now.program (with_gas self.now left None) }
+        ensures told { WasTold W.HasSeen watcher.old watcher.new (paid_at number self.now.program (with_gas self.now left None)) }
         ensures gas { result.0 ≤ left }
     {
         let cost = self.cost::<PLAIN>(Op::Trap);
         if left < cost {
             return (0, Exit::OutOfGas);
         }
+        watcher.see(PaidInstruction {
+            number,
+            pc: self.pc,
+            op: Op::Trap,
+            gas: left - cost,
+        });
         (left - cost, Exit::Panic)
     }
 
     // Makes so many instructions, or fewer where the run ends before, and takes no gas for them. It answers how much
     // gas they leave, and the exit of the last, if it ended the run. A schedule in which each form costs 1 is not asked.
-    fn go<const PLAIN: bool>(&mut self, fuel: u64) -> (u64, Result<Option<Exit>, AllocError>)
+    fn go<const PLAIN: bool, W: Watcher>(
+        &mut self,
+        fuel: u64,
+        watcher: &mut W,
+    ) -> (u64, Result<Option<Exit>, AllocError>)
         requires { PLAIN ≡ true → self.old.costs.forms ≡ plain.forms }
         ensures reached { IfOk result.1 (λ exit. with_gas self.new result.0 exit ≡ reached fuel self.old.program (moment self.old None)) }
+        ensures told { IfOk result.1 (λ _. WasTold W.HasSeen watcher.old watcher.new (paid_instructions 1 self.old.program (states fuel self.old.program (moment self.old None)))) }
         ensures err { OnErr result.1 ((n : ℕ) × (n < fuel) × (with_gas self.new result.0 None ≡ reached n self.old.program (moment self.old None))) }
+        ensures told_err { OnErr result.1 ((n : ℕ) × (n < fuel) × (with_gas self.new result.0 None ≡ reached n self.old.program (moment self.old None))
+            × WasTold W.HasSeen watcher.old watcher.new (paid_instructions 1 self.old.program (states (n + 1) self.old.program (moment self.old None)))) }
         ensures wants { OnErr result.1 (changes_memory (act_at self.new.program (state_of self.new)) ≡ true) }
         ensures gas { result.0 ≤ self.old.gas }
         ensures rest { ChangesStateAlone self.old self.new }
@@ -187,13 +189,19 @@ impl Machine {
         let mut pc = self.pc;
         'steps: for made in 0..fuel {
             let Some(at) = self.look(pc) else {
-                let (left, exit) = self.trap_past_code::<PLAIN>(left);
+                let (left, exit) = self.trap_past_code::<PLAIN, W>(made + 1, left, watcher);
                 return (left, Ok(Some(exit)));
             };
             let cost = self.cost::<PLAIN>(at.op);
             if left < cost {
                 return (0, Ok(Some(out_of_gas())));
             }
+            watcher.see(PaidInstruction {
+                number: made + 1,
+                pc: at.pc,
+                op: at.op,
+                gas: left - cost,
+            });
             match self.attempt(at) {
                 Attempt::Next => pc = at.next,
                 Attempt::Jumped => pc = self.pc,
@@ -210,17 +218,24 @@ impl Machine {
     }
 
     // The same, by the schedule that the machine has.
-    fn go_on_schedule(&mut self, fuel: u64) -> (u64, Result<Option<Exit>, AllocError>)
+    fn go_on_schedule<W: Watcher>(
+        &mut self,
+        fuel: u64,
+        watcher: &mut W,
+    ) -> (u64, Result<Option<Exit>, AllocError>)
         ensures reached { IfOk result.1 (λ exit. with_gas self.new result.0 exit ≡ reached fuel self.old.program (moment self.old None)) }
+        ensures told { IfOk result.1 (λ _. WasTold W.HasSeen watcher.old watcher.new (paid_instructions 1 self.old.program (states fuel self.old.program (moment self.old None)))) }
         ensures err { OnErr result.1 ((n : ℕ) × (n < fuel) × (with_gas self.new result.0 None ≡ reached n self.old.program (moment self.old None))) }
+        ensures told_err { OnErr result.1 ((n : ℕ) × (n < fuel) × (with_gas self.new result.0 None ≡ reached n self.old.program (moment self.old None))
+            × WasTold W.HasSeen watcher.old watcher.new (paid_instructions 1 self.old.program (states (n + 1) self.old.program (moment self.old None)))) }
         ensures wants { OnErr result.1 (changes_memory (act_at self.new.program (state_of self.new)) ≡ true) }
         ensures gas { result.0 ≤ self.old.gas }
         ensures rest { ChangesStateAlone self.old self.new }
     {
         if self.costs.has_plain_forms() {
-            self.go::<true>(fuel)
+            self.go::<true, W>(fuel, watcher)
         } else {
-            self.go::<false>(fuel)
+            self.go::<false, W>(fuel, watcher)
         }
     }
 
@@ -244,7 +259,7 @@ impl Machine {
         ensures err { OnErr result (self.new ≡ self.old) }
         ensures wants { OnErr result (changes_memory (act_at self.old.program (state_of self.old)) ≡ true) }
     {
-        let (left, exit) = self.go_on_schedule(1);
+        let (left, exit) = self.go_on_schedule(1, &mut Blind);
         self.pay(left);
         exit
     }
@@ -261,7 +276,33 @@ impl Machine {
         ensures err { OnErr result ((n : ℕ) × (n < fuel) × (moment self.new None ≡ reached n self.old.program (moment self.old None))) }
         ensures wants { OnErr result (changes_memory (act_at self.new.program (state_of self.new)) ≡ true) }
     {
-        let (left, exit) = self.go_on_schedule(fuel);
+        let (left, exit) = self.go_on_schedule(fuel, &mut Blind);
+        self.pay(left);
+        match exit? {
+            Some(exit) => Ok(Progress::Ended(exit)),
+            None => Ok(Progress::Paused),
+        }
+    }
+
+    /// The same, and the watcher is told of each instruction, in their order: of each of the first `fuel` states of
+    /// the history that has no exit and whose gas pays its cost, numbered from 1.
+    ///
+    /// # Errors
+    /// Want of memory as for `run`; the watcher was told also of the instruction at hand, which is paid for only where
+    /// it is made.
+    pub fn run_watched<W: Watcher>(
+        &mut self,
+        fuel: u64,
+        watcher: &mut W,
+    ) -> Result<Progress, AllocError>
+        ensures reached { IfOk result (λ progress. moment self.new (exit_in progress) ≡ reached fuel self.old.program (moment self.old None)) }
+        ensures told { IfOk result (λ _. WasTold W.HasSeen watcher.old watcher.new (paid_instructions 1 self.old.program (states fuel self.old.program (moment self.old None)))) }
+        ensures program { self.new.program ≡ self.old.program }
+        ensures err { OnErr result ((n : ℕ) × (n < fuel) × (moment self.new None ≡ reached n self.old.program (moment self.old None))
+            × WasTold W.HasSeen watcher.old watcher.new (paid_instructions 1 self.old.program (states (n + 1) self.old.program (moment self.old None)))) }
+        ensures wants { OnErr result (changes_memory (act_at self.new.program (state_of self.new)) ≡ true) }
+    {
+        let (left, exit) = self.go_on_schedule(fuel, watcher);
         self.pay(left);
         match exit? {
             Some(exit) => Ok(Progress::Ended(exit)),

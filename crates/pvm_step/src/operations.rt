@@ -6,11 +6,10 @@ ghost use Rattle.pvm_isa.specs.declared.form.Form.TheVariants.{F9, F10, F13};
 ghost use Rattle.pvm_isa.specs.declared.op.Op.TheVariants.{LoadImm64, LoadImm, MoveReg, CmovIzImm, CmovNzImm, CmovIz, CmovNz};
 ghost use Rattle.blob_decode.specs.Program as blob;
 ghost use Rattle.pvm_alu.specs.Alu as alu;
-ghost use Rattle.pvm_step.specs.Effect.{gives_of_a, gives_of_a_b, gives_of_b_x, line, outcome};
+ghost use Rattle.pvm_step.specs.Effect.{sets_of_a, sets_of_a_b, sets_of_b_x, line, outcome};
 ghost use Rattle.pvm_step.specs.declared.attempt.Attempt.TheVariants.{Next};
 ghost use Rattle.pvm_step.specs.Machine.{IsAt, ChangesStateAlone, state_of, after_of, exit_after, is_done};
 
-use crate::at::At;
 use crate::attempt::Attempt;
 use crate::machine::Machine;
 use pvm_alu::{binary, unary};
@@ -22,55 +21,55 @@ use pvm_isa::{
 impl Machine {
     /// An operation with the values of two registers.
     #[inline(always)]
-    pub(crate) fn give_of_a_b(&mut self, op: Op, at: At) -> Attempt
-        requires line { line op ≡ gives_of_a_b op }
+    pub(crate) fn set_of_a_b(&mut self, op: Op, pc: u64, next: u64, skip: u8, bytes: u64) -> Attempt
+        requires line { line op ≡ sets_of_a_b op }
         requires form { form_of op ≡ F13 }
         requires operation { IsTrue (alu.is_binary op) }
-        requires at { IsAt at.pc at.next at.skip at.bytes self.old }
+        requires at { IsAt pc next skip bytes self.old }
         ensures acts { after_of self.new (exit_after result) ≡ outcome op self.old.program (state_of self.old) }
         ensures next { result ≡ Next → self.new.pc ≡ blob.next self.old.program self.old.pc }
         ensures done { is_done result ≡ true }
         ensures rest { ChangesStateAlone self.old self.new }
     {
-        let args = three_registers_in(at.bytes);
+        let args = three_registers_in(bytes);
         let value = binary(op, self.value(args.a), self.value(args.b));
-        self.give(args.d, value, at.next);
+        self.set_and_go_on(args.d, value, next);
         Attempt::Next
     }
 
     /// An operation with the value of a register and an immediate.
     #[inline(always)]
-    pub(crate) fn give_of_b_x(&mut self, op: Op, at: At) -> Attempt
-        requires line { line op ≡ gives_of_b_x op }
+    pub(crate) fn set_of_b_x(&mut self, op: Op, pc: u64, next: u64, skip: u8, bytes: u64) -> Attempt
+        requires line { line op ≡ sets_of_b_x op }
         requires form { form_of op ≡ F10 }
         requires operation { IsTrue (alu.is_binary op) }
-        requires at { IsAt at.pc at.next at.skip at.bytes self.old }
+        requires at { IsAt pc next skip bytes self.old }
         ensures acts { after_of self.new (exit_after result) ≡ outcome op self.old.program (state_of self.old) }
         ensures next { result ≡ Next → self.new.pc ≡ blob.next self.old.program self.old.pc }
         ensures done { is_done result ≡ true }
         ensures rest { ChangesStateAlone self.old self.new }
     {
-        let args = two_registers_and_immediate_in(at.bytes, at.skip);
+        let args = two_registers_and_immediate_in(bytes, skip);
         let value = binary(op, self.value(args.b), args.x);
-        self.give(args.a, value, at.next);
+        self.set_and_go_on(args.a, value, next);
         Attempt::Next
     }
 
     /// An operation with the value of a register.
     #[inline(always)]
-    pub(crate) fn give_of_a(&mut self, op: Op, at: At) -> Attempt
-        requires line { line op ≡ gives_of_a op }
+    pub(crate) fn set_of_a(&mut self, op: Op, pc: u64, next: u64, skip: u8, bytes: u64) -> Attempt
+        requires line { line op ≡ sets_of_a op }
         requires form { form_of op ≡ F9 }
         requires operation { IsTrue (alu.is_unary op) }
-        requires at { IsAt at.pc at.next at.skip at.bytes self.old }
+        requires at { IsAt pc next skip bytes self.old }
         ensures acts { after_of self.new (exit_after result) ≡ outcome op self.old.program (state_of self.old) }
         ensures next { result ≡ Next → self.new.pc ≡ blob.next self.old.program self.old.pc }
         ensures done { is_done result ≡ true }
         ensures rest { ChangesStateAlone self.old self.new }
     {
-        let args = two_registers_in(at.bytes);
+        let args = two_registers_in(bytes);
         let value = unary(op, self.value(args.a));
-        self.give(args.d, value, at.next);
+        self.set_and_go_on(args.d, value, next);
         Attempt::Next
     }
 
@@ -85,7 +84,7 @@ impl Machine {
         ensures rest { ChangesStateAlone self.old self.new }
     {
         let args = register_and_wide_immediate(self.program.code(), pc);
-        self.give(args.a, args.x, next);
+        self.set_and_go_on(args.a, args.x, next);
         Attempt::Next
     }
 
@@ -100,23 +99,23 @@ impl Machine {
         ensures rest { ChangesStateAlone self.old self.new }
     {
         let args = register_and_immediate(self.program.code(), pc, skip);
-        self.give(args.a, args.x, next);
+        self.set_and_go_on(args.a, args.x, next);
         Attempt::Next
     }
 
     /// A register's value.
     #[inline(always)]
     #[tactic(auto, unfolding(crate::specs::Effect::outcome, crate::specs::Effect::line, pvm_isa::specs::Opcodes::entry))]
-    pub(crate) fn move_reg(&mut self, at: At) -> Attempt
-        requires at { IsAt at.pc at.next at.skip at.bytes self.old }
+    pub(crate) fn move_reg(&mut self, pc: u64, next: u64, skip: u8, bytes: u64) -> Attempt
+        requires at { IsAt pc next skip bytes self.old }
         ensures acts { after_of self.new (exit_after result) ≡ outcome MoveReg self.old.program (state_of self.old) }
         ensures next { result ≡ Next → self.new.pc ≡ blob.next self.old.program self.old.pc }
         ensures done { is_done result ≡ true }
         ensures rest { ChangesStateAlone self.old self.new }
     {
-        let args = two_registers_in(at.bytes);
+        let args = two_registers_in(bytes);
         let value = self.value(args.a);
-        self.give(args.d, value, at.next);
+        self.set_and_go_on(args.d, value, next);
         Attempt::Next
     }
 
@@ -155,34 +154,34 @@ impl Machine {
     /// A register's value where another is 0.
     #[inline(always)]
     #[tactic(auto, unfolding(crate::specs::Effect::outcome, crate::specs::Effect::line, pvm_isa::specs::Opcodes::entry))]
-    pub(crate) fn cmov_iz(&mut self, at: At) -> Attempt
-        requires at { IsAt at.pc at.next at.skip at.bytes self.old }
+    pub(crate) fn cmov_iz(&mut self, pc: u64, next: u64, skip: u8, bytes: u64) -> Attempt
+        requires at { IsAt pc next skip bytes self.old }
         ensures acts { after_of self.new (exit_after result) ≡ outcome CmovIz self.old.program (state_of self.old) }
         ensures next { result ≡ Next → self.new.pc ≡ blob.next self.old.program self.old.pc }
         ensures done { is_done result ≡ true }
         ensures rest { ChangesStateAlone self.old self.new }
     {
-        let args = three_registers_in(at.bytes);
+        let args = three_registers_in(bytes);
         let holds = self.value(args.b) == 0;
         let value = self.value(args.a);
-        self.move_where(holds, args.d, value, at.next);
+        self.move_where(holds, args.d, value, next);
         Attempt::Next
     }
 
     /// A register's value where another is not 0.
     #[inline(always)]
     #[tactic(auto, unfolding(crate::specs::Effect::outcome, crate::specs::Effect::line, pvm_isa::specs::Opcodes::entry))]
-    pub(crate) fn cmov_nz(&mut self, at: At) -> Attempt
-        requires at { IsAt at.pc at.next at.skip at.bytes self.old }
+    pub(crate) fn cmov_nz(&mut self, pc: u64, next: u64, skip: u8, bytes: u64) -> Attempt
+        requires at { IsAt pc next skip bytes self.old }
         ensures acts { after_of self.new (exit_after result) ≡ outcome CmovNz self.old.program (state_of self.old) }
         ensures next { result ≡ Next → self.new.pc ≡ blob.next self.old.program self.old.pc }
         ensures done { is_done result ≡ true }
         ensures rest { ChangesStateAlone self.old self.new }
     {
-        let args = three_registers_in(at.bytes);
+        let args = three_registers_in(bytes);
         let holds = self.value(args.b) != 0;
         let value = self.value(args.a);
-        self.move_where(holds, args.d, value, at.next);
+        self.move_where(holds, args.d, value, next);
         Attempt::Next
     }
 }

@@ -1,5 +1,5 @@
 use Rattle.std.proofs.Common.{ℕ, ◌+◌, ◌-◌, ◌*◌, ◌/◌, ◌^◌, length, ap, ◌∙◌, arith}
-use Rattle.pvm_isa.specs.Arguments.{number_at}
+use Rattle.byte_numbers.specs.Numbers.{number_at}
 use Rattle.pvm_isa.proofs.Numbers.{later-past}
 use Rattle.pvm_isa.proofs.bytes.eight_near_end.Goals as goal
 

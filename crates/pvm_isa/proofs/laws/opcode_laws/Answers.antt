@@ -1,4 +1,4 @@
-use Rattle.pvm_isa.proofs.Lookups.{numbered, numbered-only, named, named-only, number_of-below, number_of-injective, name_of-injective}
+use Rattle.pvm_isa.specs.OpcodeLaws.{numbered, numbered-only, named, named-only, number_of-below, number_of-injective, name_of-injective}
 use Rattle.pvm_isa.proofs.laws.opcode_laws.Goals as goal
 
 pub returns-clause-numbered : goal.returns-clause-numbered

@@ -1,7 +1,7 @@
 use Rattle.std.proofs.Common.{◌≡◌, ap, sym, ◌∙◌}
 use Rattle.std.proofs.lemmas.Slice.Eq.{bytes_eq-Decides}
 use Rattle.pvm_isa.specs.Opcodes.{name_of}
-use Rattle.pvm_isa.proofs.Lookups.{number_of-injective}
+use Rattle.pvm_isa.specs.OpcodeLaws.{number_of-injective}
 use Rattle.pvm_isa.proofs.opcodes.op_if_named.Goals as goal
 
 pub returns-else-eq : goal.returns-else-eq

@@ -1,5 +1,5 @@
 use Rattle.std.proofs.Common.{arith}
-use Rattle.pvm_isa.proofs.Lookups.{number_of-below}
+use Rattle.pvm_isa.specs.OpcodeLaws.{number_of-below}
 use Rattle.pvm_isa.proofs.opcodes.op_named.Goals as goal
 
 pub returns : goal.returns

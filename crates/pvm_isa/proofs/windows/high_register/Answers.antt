@@ -1,5 +1,5 @@
 use Rattle.std.proofs.Common.{arith}
-use Rattle.pvm_isa.proofs.WindowLaws.{second-byte}
+use Rattle.pvm_isa.specs.WindowLaws.{second-byte}
 use Rattle.pvm_isa.proofs.windows.high_register.Goals as goal
 
 pub returns-clause-value : goal.returns-clause-value

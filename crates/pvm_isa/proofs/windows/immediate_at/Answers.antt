@@ -1,5 +1,5 @@
 use Rattle.std.proofs.Common.{◌∙◌}
-use Rattle.pvm_isa.proofs.WindowLaws.{window-imm}
+use Rattle.pvm_isa.specs.WindowLaws.{window-imm}
 use Rattle.pvm_isa.proofs.windows.immediate_at.Goals as goal
 
 pub returns : goal.returns

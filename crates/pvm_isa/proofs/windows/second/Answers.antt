@@ -1,4 +1,4 @@
-use Rattle.pvm_isa.proofs.WindowLaws.{second-byte}
+use Rattle.pvm_isa.specs.WindowLaws.{second-byte}
 use Rattle.pvm_isa.proofs.windows.second.Goals as goal
 
 pub returns : goal.returns

@@ -1,5 +1,5 @@
 use Rattle.std.proofs.Common.{arith}
-use Rattle.pvm_isa.proofs.WindowLaws.{third-byte}
+use Rattle.pvm_isa.specs.WindowLaws.{third-byte}
 use Rattle.pvm_isa.proofs.windows.third_register.Goals as goal
 
 pub returns-clause-value : goal.returns-clause-value

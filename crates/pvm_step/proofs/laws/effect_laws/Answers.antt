@@ -1,5 +1,5 @@
 use Rattle.pvm_step.proofs.Named.{leaves-registers, leaves-memory, leaves-bytes}
-use Rattle.pvm_step.proofs.Grown.{lifts, spares}
+use Rattle.pvm_step.proofs.Grown.{lifts, spares, full}
 use Rattle.pvm_step.proofs.laws.effect_laws.Goals as goal
 
 pub returns-clause-registers : goal.returns-clause-registers
@@ -16,3 +16,6 @@ returns-clause-lifts c = lifts
 
 pub returns-clause-spares : goal.returns-clause-spares
 returns-clause-spares c = spares
+
+pub returns-clause-full : goal.returns-clause-full
+returns-clause-full c = full

@@ -1,4 +1,5 @@
 use Rattle.pvm_step.proofs.Histories.{history-is, one_history, history-short, never_rises, nth_is, last_is, gas_paid}
+use Rattle.pvm_step.proofs.Unpaid.{unpaid}
 use Rattle.pvm_step.proofs.Reached.{reached-gain, answer-gain}
 use Rattle.pvm_step.proofs.laws.history_laws.Goals as goal
 
@@ -28,3 +29,6 @@ returns-clause-last c = last_is
 
 pub returns-clause-paid : goal.returns-clause-paid
 returns-clause-paid c p m ms h not = gas_paid p m m ms h not
+
+pub returns-clause-unpaid : goal.returns-clause-unpaid
+returns-clause-unpaid c p m ms h going out = unpaid p m m ms h going out

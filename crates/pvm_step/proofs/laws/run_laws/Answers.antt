@@ -1,4 +1,5 @@
 use Rattle.pvm_step.proofs.Reached.{resumed, stays_ended, costs_paid, each_costs, each_costs_one, reached-answer}
+use Rattle.pvm_step.proofs.Watched.{paid-all}
 use Rattle.pvm_step.proofs.laws.run_laws.Goals as goal
 
 pub returns-clause-resumed : goal.returns-clause-resumed
@@ -18,3 +19,6 @@ returns-clause-plain c = each_costs_one
 
 pub returns-clause-answers : goal.returns-clause-answers
 returns-clause-answers c = reached-answer
+
+pub returns-clause-told : goal.returns-clause-told
+returns-clause-told c = paid-all

@@ -2,17 +2,13 @@ use Rattle.std.proofs.Common.{◌≡◌, ap, sym, ◌∙◌, arith, ◌<◌, len
 use Rattle.std.proofs.lemmas.List.{get_or_read}
 use Rattle.blob_decode.specs.Program.{Program, ends_block}
 use Rattle.pvm_isa.specs.Arguments.{code_byte}
-use Rattle.blob_decode.proofs.Starts.{IsNearest, ended-nearest, ended-none}
+use Rattle.blob_decode.specs.Kept.{IsNearest}
+use Rattle.blob_decode.proofs.Starts.{ended-nearest, ended-none}
 use Rattle.blob_decode.proofs.program.Program.follows_end.Goals as goal
 
 pub returns-in-Some : goal.returns-in-Some
 returns-in-Some c =
-    let nearest : IsNearest c.args.self.now c.args.place c.in-Some.n = record {
-      before = c.in-Some.ensures.before;
-      near = c.in-Some.ensures.near;
-      begins = c.in-Some.ensures.begins;
-      none = c.in-Some.ensures.nearest;
-    } in
+    let nearest : IsNearest c.args.self.now c.args.place c.in-Some.n = c.in-Some.ensures.nearest in
     let within : c.in-Some.n < length c.args.self.now.code = omega (arith, c.requires.within, nearest.before) in
     let same : c.self.inside.code.items ≡ c.args.self.now.code = ap (λ (p : Program). p.code) c.self.view_is in
     let inside : c.in-Some.n < length c.self.inside.code.items = omega (arith, within, ap (length {A = ℕ}) same) in

@@ -2,7 +2,7 @@ use Rattle.std.proofs.Common.{rules, ◌≡◌, ℕ, ap, sym, ◌∙◌}
 use Rattle.pvm_isa.specs.Arguments.{arguments}
 use Rattle.pvm_isa.specs.declared.form.Form.TheVariants.{F8}
 use Rattle.blob_decode.specs.Program.{Program}
-use Rattle.pvm_step.specs.Effect.{State, branches_on_a_x, after}
+use Rattle.pvm_step.specs.Effect.{MachineState, branches_on_a_x, after}
 use Rattle.pvm_step.specs.Machine.{state_of, after_of, exit_after}
 use Rattle.pvm_step.proofs.Acting.{outcome_by}
 use Rattle.pvm_step.proofs.machine.Machine.branch_on_a_x.Goals as goal
@@ -10,7 +10,7 @@ use Rattle.pvm_step.proofs.machine.Machine.branch_on_a_x.Goals as goal
 pub returns-clause-acts : goal.returns-clause-acts
 returns-clause-acts c =
     let p : Program = c.args.self.now.program in
-    let s : State = state_of c.args.self.now in
+    let s : MachineState = state_of c.args.self.now in
     let made : after_of c.branch-self.new.self (exit_after c.branch-self.result) ≡ after p s (branches_on_a_x c.args.op (arguments F8 p.code s.pc c.args.skip) s) = search rules in
     made
     ∙ ap (λ (k : ℕ). after p s (branches_on_a_x c.args.op (arguments F8 p.code s.pc k) s)) c.requires.at.skip
