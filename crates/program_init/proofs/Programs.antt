@@ -4,7 +4,7 @@ use Rattle.jam_codec.specs.Format.{Spells, whole}
 use Rattle.jam_codec.specs.Laws.{AreBytes, SpellsNone, IsFileFormat}
 use Rattle.jam_codec.proofs.FormatLaws.{file_laws}
 use Rattle.blob_decode.specs.Program.{Program, program_blob}
-use Rattle.blob_decode.proofs.BlobLaws.{program_blob_laws}
+use Rattle.blob_decode.specs.BlobLaws.{program_blob_laws}
 
 blob_files : IsFileFormat program_blob
 blob_files = file_laws program_blob program_blob_laws

@@ -8,7 +8,7 @@ use Rattle.jam_codec.proofs.Numbers.{AreBytes-take}
 use Rattle.jam_codec.proofs.Formats.{chain_ok, ok_parts, field_laws}
 use Rattle.jam_codec.proofs.FormatLaws.{both_laws, by_laws, fixed_laws, bytes_laws, file_laws}
 use Rattle.blob_decode.specs.Program.{Program, program_blob}
-use Rattle.blob_decode.proofs.BlobLaws.{program_blob_laws}
+use Rattle.blob_decode.specs.BlobLaws.{program_blob_laws}
 use Rattle.program_init.specs.Standard.{Standard, alone, enclosed_at, enclosed, Head, head, code_size, with_code, head_of, standard_of, outer, standard_program}
 
 -- ---- A value that stands alone

@@ -5,5 +5,6 @@ mod Turns
 mod Histories
 mod Named
 mod Watched
+mod RunEnds
 mod Unpaid
 mod Grown

@@ -91,6 +91,15 @@ costs_paid (suc n) p m going =
 step-schedule : (p : Program) (m : Moment) → IsSchedule m.costs → IsSchedule (step p m).costs
 step-schedule p m is = subst IsSchedule (sym (step-costs p m)) is
 
+pub reached-schedule : (n : ℕ) (p : Program) (m : Moment) → IsSchedule m.costs → IsSchedule (reached n p m).costs
+unfolding reached
+reached-schedule zero p m is = is
+reached-schedule (suc n) p m is = reached-schedule n p (followed p m.exit m) (followed-schedule m.exit)
+  where
+    followed-schedule : (o : Option Exit) → IsSchedule (followed p o m).costs
+    followed-schedule None = step-schedule p m is
+    followed-schedule (Some e) = is
+
 -- each step costs at least 1
 pub each_costs : (n : ℕ) (p : Program) (m : Moment) → IsSchedule m.costs → (reached n p m).exit ≡ None → n + (reached n p m).gas ≤ m.gas
 each_costs zero p m is going = let same : (reached 0 p m).gas ≡ m.gas = ap (λ (k : Moment). k.gas) (reached-none p m) in omega arith
