@@ -136,18 +136,18 @@ impl Machine {
         }
     }
 
-    /// Stores the low bytes of a value at an address, where they may be written and no memory is wanted; else nothing.
+    /// Stores the low bytes of a number at an address, where they may be written and no memory is wanted; else nothing.
     #[inline(always)]
     #[tactic(auto, unfolding(crate::specs::Effect::after))]
-    pub(crate) fn try_store(&mut self, width: u8, to: u32, value: u64, next: u64) -> Attempt
+    pub(crate) fn try_store(&mut self, width: u8, to: u32, number: u64, next: u64) -> Attempt
         requires size { IsTrue (is_width width) }
         requires next { next ≡ blob.next self.old.program self.old.pc }
-        ensures acts { is_done result ≡ true → after_of self.new (exit_after result) ≡ after self.old.program (state_of self.old) (Stores width to value) }
+        ensures acts { is_done result ≡ true → after_of self.new (exit_after result) ≡ after self.old.program (state_of self.old) (Stores width to number) }
         ensures next { result ≡ Next → self.new.pc ≡ blob.next self.old.program self.old.pc }
         ensures same { result ≡ Attempt.Beyond → self.new ≡ self.old }
         ensures rest { ChangesStateAlone self.old self.new }
     {
-        match self.memory.store(to, width, value) {
+        match self.memory.store(to, width, number) {
             Ok(()) => {
                 self.go_on(next);
                 Attempt::Next

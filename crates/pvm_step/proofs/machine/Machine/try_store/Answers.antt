@@ -12,5 +12,5 @@ returns-in-Ok-clause-acts c = λ done.
     let v : Machine = the_view c.self.inside in
     ap (λ (m : Machine). after_of m None) c.go_on.ensures
     ∙ ap (λ (m : Memory). goes (record (state_of v) { memory = m }) (next v.program v.pc)) c.in-Ok.ensures.ok
-    ∙ sym (stored-at v.program (state_of v) c.args.width c.args.to c.args.value (allowed v.memory c.args.to c.args.width c.store.result c.in-Ok.field-0 c.in-Ok.is c.store.ensures.refused))
-    ∙ ap (λ (m : Machine). after m.program (state_of m) (Stores c.args.width c.args.to c.args.value)) c.self.view_is
+    ∙ sym (stored-at v.program (state_of v) c.args.width c.args.to c.args.number (allowed v.memory c.args.to c.args.width c.store.result c.in-Ok.field-0 c.in-Ok.is c.store.ensures.refused))
+    ∙ ap (λ (m : Machine). after m.program (state_of m) (Stores c.args.width c.args.to c.args.number)) c.self.view_is
