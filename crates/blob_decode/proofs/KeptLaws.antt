@@ -14,10 +14,10 @@ use Rattle.pvm_isa.specs.declared.op.Op.TheVariants.{Trap}
 use Rattle.pvm_isa.specs.Opcodes.{op_numbered}
 use Rattle.blob_decode.specs.Program.{Program, mask_bit, op_at, skip}
 use Rattle.pvm_isa.specs.Arguments.{code_byte}
-use Rattle.blob_decode.specs.Kept.{program_of, Keeps}
+use Rattle.blob_decode.specs.Kept.{program_of, AreParts}
 use Rattle.blob_decode.proofs.Starts.{gap-here}
 
-pub mask_bit-kept : (count width : ℕ) (table code mask : List ℕ) (i : ℕ) → Keeps count width table code mask → i < length code → mask_bit (program_of count width table code mask) i ≡ (get_or mask (i / 8) 0 / 2 ^ (i % 8) % 2 == 1)
+pub mask_bit-kept : (count width : ℕ) (table code mask : List ℕ) (i : ℕ) → AreParts count width table code mask → i < length code → mask_bit (program_of count width table code mask) i ≡ (get_or mask (i / 8) 0 / 2 ^ (i % 8) % 2 == 1)
 mask_bit-kept count width table code mask i keeps within =
     binary_digits-of_bytes mask (length code) i true keeps.bytes (omega (arith, keeps.bits)) within
 
@@ -48,8 +48,8 @@ packed-below : (bits : List Bool) → little_number (packed bits) < 2 ^ length b
 packed-below bits =
     omega (arith, little_number-little_endian (bytes_for (length bits)) (binary_number bits) (binary_number-fits bits), binary_number-below bits)
 
-pub Keeps-read : (count width size : ℕ) (table code mask : List ℕ) → count < 2 ^ 64 → width ≤ 8 → length table ≡ count * width → length code ≡ size → mask ≡ packed (binary_digits size (little_number mask)) → Keeps count width table code mask
-Keeps-read count width size table code mask counted narrow jumps sized packs =
+pub AreParts-read : (count width size : ℕ) (table code mask : List ℕ) → count < 2 ^ 64 → width ≤ 8 → length table ≡ count * width → length code ≡ size → mask ≡ packed (binary_digits size (little_number mask)) → AreParts count width table code mask
+AreParts-read count width size table code mask counted narrow jumps sized packs =
     let bits : List Bool = binary_digits size (little_number mask) in
     let many : length bits ≡ length code = length-binary_digits size (little_number mask) ∙ sym sized in
     record {

@@ -10,9 +10,9 @@ use Rattle.jam_codec.proofs.Bits.{length-binary_digits, packed-found}
 use Rattle.jam_codec.proofs.Fields.{numbers_laws}
 use Rattle.jam_codec.proofs.Numbers.{items_at-numbers, length-numbers}
 use Rattle.blob_decode.specs.Program.{program_blob}
-use Rattle.blob_decode.specs.Kept.{program_of, Keeps}
+use Rattle.blob_decode.specs.Kept.{program_of, AreParts}
 
-pub Spells-kept : (count width : ℕ) (table code mask : List ℕ) → Keeps count width table code mask → AreBytes table → length code < 2 ^ 64 → Spells program_blob (program_of count width table code mask) (natural count ++ (little_endian 1 width ++ (natural (length code) ++ (table ++ (code ++ mask)))))
+pub Spells-kept : (count width : ℕ) (table code mask : List ℕ) → AreParts count width table code mask → AreBytes table → length code < 2 ^ 64 → Spells program_blob (program_of count width table code mask) (natural count ++ (little_endian 1 width ++ (natural (length code) ++ (table ++ (code ++ mask)))))
 Spells-kept count width table code mask keeps bytes small =
     let many : length (numbers width count table) ≡ count = length-numbers width count table in
     let read : (numbers_of width count).read (from 0 table) ≡ Ok (numbers width count table, past (count * width) (from 0 table)) =

@@ -12,7 +12,7 @@ use Rattle.jam_codec.specs.Laws.{AreBytes}
 use Rattle.jam_codec.proofs.Numbers.{AreBytes-take, AreBytes-drop}
 use Rattle.jam_codec.proofs.Bits.{binary_digits-of_bytes}
 use Rattle.blob_decode.specs.Program.{mask_bit, skip}
-use Rattle.blob_decode.specs.Kept.{program_of, Keeps, AreMarks, FirstSet, LastSet}
+use Rattle.blob_decode.specs.Kept.{program_of, AreParts, AreMarks, FirstSet, LastSet}
 use Rattle.blob_decode.proofs.Starts.{gap-is}
 use Rattle.blob_decode.proofs.KeptLaws.{mask_bit-kept, mask_bit-past}
 
@@ -129,7 +129,7 @@ four-bit bytes first i are long less =
     ∙ ap (λ (b : ℕ). b / 2 ^ (i % 8) % 2 == 1) byte
     ∙ ap (λ (k : ℕ). get_or bytes ((8 * first + i) / 8) 0 / 2 ^ k % 2 == 1) bit
 
-module _ (count width : ℕ) (table code mask : List ℕ) (keeps : Keeps count width table code mask) where
+module _ (count width : ℕ) (table code mask : List ℕ) (keeps : AreParts count width table code mask) where
   -- a bit of four bytes of the mask
   window-bit : (first i : ℕ) → first + 4 ≤ length mask → i < 32 → 8 * first + i < length code → (little_number (take 4 (drop first mask)) / 2 ^ i % 2 == 1) ≡ mask_bit (program_of count width table code mask) (8 * first + i)
   window-bit first i long less within =

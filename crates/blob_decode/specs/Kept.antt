@@ -14,7 +14,7 @@ program_of count width table code mask = record {
 }
 
 -- the bytes are as long as the program asks, and no spare bit of the mask is set
-pub record Keeps (count width : ℕ) (table code mask : List ℕ) : Type 0 where
+pub record AreParts (count width : ℕ) (table code mask : List ℕ) : Type 0 where
   pub counted : count < 2 ^ 64
   pub narrow : width ≤ 8
   pub jumps : length table ≡ count * width

@@ -5,7 +5,7 @@ ghost use Rattle.jam_codec.specs.Reading.{Reads};
 ghost use Rattle.jam_codec.specs.Format.{numbers_of, whole};
 ghost use Rattle.jam_codec.specs.Laws.{AreBytes};
 ghost use Rattle.blob_decode.specs.Program.{program_blob};
-ghost use Rattle.blob_decode.specs.Kept.{program_of, Keeps};
+ghost use Rattle.blob_decode.specs.Kept.{program_of, AreParts};
 ghost use Rattle.blob_decode.specs.Parts.{lists};
 
 use jam_codec::{Cursor, Malformed};
@@ -47,7 +47,7 @@ fn read_lists<'a>(
 ) -> Result<Parts<'a>, Malformed>
     requires { width ≤ 8 }
     ensures exact { Reads (λ e. Some e.place) (λ p. (numbers p.width p.count p.table.now, (p.code.now, binary_digits (length p.code.now) (little_number p.mask.now)))) result cursor.new ((lists count width size).read cursor.old) }
-    ensures keeps { IfOk result (λ p. Keeps p.count p.width p.table.now p.code.now p.mask.now) }
+    ensures keeps { IfOk result (λ p. AreParts p.count p.width p.table.now p.code.now p.mask.now) }
     ensures same { IfOk result (λ p. (p.count ≡ count) × (p.width ≡ width) × (length p.code.now ≡ size)) }
 {
     let table = read_table(cursor, count, width)?;
@@ -65,7 +65,7 @@ fn read_lists<'a>(
 // All the fields.
 fn read_parts<'a>(cursor: &mut Cursor<'a>) -> Result<Parts<'a>, Malformed>
     ensures exact { Reads (λ e. Some e.place) (λ p. program_of p.count p.width p.table.now p.code.now p.mask.now) result cursor.new (program_blob.read cursor.old) }
-    ensures keeps { IfOk result (λ p. Keeps p.count p.width p.table.now p.code.now p.mask.now) }
+    ensures keeps { IfOk result (λ p. AreParts p.count p.width p.table.now p.code.now p.mask.now) }
 {
     let count = cursor.natural()?;
     let place = cursor.place();
@@ -95,7 +95,7 @@ pub fn push_lists(
 // The fields, where the bytes are a program blob; else the place of the first that does not spell.
 pub fn parts_of(bytes: &[u8]) -> Result<Parts<'_>, Malformed>
     ensures exact { MatchResult result (λ p. whole program_blob bytes.now ≡ Ok (program_of p.count p.width p.table.now p.code.now p.mask.now)) (λ e. whole program_blob bytes.now ≡ Err e.place) }
-    ensures keeps { IfOk result (λ p. Keeps p.count p.width p.table.now p.code.now p.mask.now) }
+    ensures keeps { IfOk result (λ p. AreParts p.count p.width p.table.now p.code.now p.mask.now) }
 {
     let mut cursor = Cursor::new(bytes);
     let parts = read_parts(&mut cursor)?;

@@ -77,13 +77,13 @@ pub struct Fetched {
 impl Model for Program {
     ghost use Rattle.blob_decode.specs.Program.{Program};
     ghost use Rattle.std.specs.Prelude.{◌≡◌, ◌-◌, length};
-    ghost use Rattle.blob_decode.specs.Kept.{program_of, Keeps, AreMarks};
+    ghost use Rattle.blob_decode.specs.Kept.{program_of, AreParts, AreMarks};
 
     ghost Value = { Program };
 
     ghost view = { λ p. program_of p.count p.width p.table.items p.code.items p.mask.items };
 
-    ghost invariant = { λ p. Keeps p.count p.width p.table.items p.code.items p.mask.items × AreMarks (length p.code.items) p.mask.items p.marks.items × (p.windows ≡ length p.code.items - 7) };
+    ghost invariant = { λ p. AreParts p.count p.width p.table.items p.code.items p.mask.items × AreMarks (length p.code.items) p.mask.items p.marks.items × (p.windows ≡ length p.code.items - 7) };
 }
 
 // Four bytes of a mask as a number.

@@ -5,7 +5,7 @@ use Rattle.std.specs.FinMap as fin
 use Rattle.std.proofs.lemmas.Bool.{cases_lt, le-ltb, lt-ltb, ne_eqb, eq-eqb, both_ways}
 use Rattle.blob_decode.specs.Program.{Program, next}
 use Rattle.paged_memory.specs.PageMap.{Memory, Page, page_of, lift_in, lift_page, lift_pages}
-use Rattle.paged_memory.proofs.Maps.{inserted_there, inserted_other}
+use Rattle.pvm_step.proofs.Pages.{inserted_there, inserted_other}
 use Rattle.pvm_step.specs.Effect.{MachineState, Grows, after, with_register, grown, pages_touched}
 use Rattle.pvm_step.specs.Named.{Touches, new_page}
 

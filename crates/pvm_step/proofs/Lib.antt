@@ -3,6 +3,7 @@ mod Steps
 mod Reached
 mod Turns
 mod Histories
+mod Pages
 mod Named
 mod Watched
 mod RunEnds

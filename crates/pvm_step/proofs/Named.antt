@@ -9,7 +9,7 @@ use Rattle.blob_decode.specs.Program.{Program, Landing, to, halts, nowhere, jump
 use Rattle.paged_memory.specs.declared.rights.Rights.TheVariants as may
 use Rattle.paged_memory.specs.declared.access.Access.{Access}
 use Rattle.paged_memory.specs.PageMap.{Memory, Page, Write, byte, byte_in, page_of, addresses, blank, put_in, put_byte, put_bytes, bytes_of, lift_in, lift_page, lift_pages, loaded, refusal}
-use Rattle.paged_memory.proofs.Maps.{inserted_there, inserted_other}
+use Rattle.pvm_step.proofs.Pages.{inserted_there, inserted_other}
 use Rattle.pvm_alu.specs.Alu.{loaded_bytes, widen}
 use Rattle.pvm_step.specs.Effect.{MachineState, Act, Nothing, Exits, Sets, Loads, Stores, Jumps, Branches, JumpsThrough, SetsAndJumps, SetsAndJumpsThrough, Moves, Grows, after, value_in, with_register, lands, loads, stores, grown, goes, pages_touched}
 use Rattle.pvm_step.specs.Named.{register_of, stored_by, changes_memory}

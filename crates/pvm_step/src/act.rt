@@ -13,9 +13,10 @@ use pvm_isa::Op;
 use std::alloc::AllocError;
 
 impl Machine {
-    /// Does the instruction of an opcode that works on the registers alone; of another it does nothing.
+    /// Does the instruction of an opcode that works on the registers alone, and of one that loads or stores a register,
+    /// where it is not refused and wants no memory; else nothing.
     #[inline(always)]
-    #[tactic(auto, unfolding(crate::specs::Effect::line, crate::specs::Named::on_registers, pvm_isa::specs::Opcodes::entry, pvm_alu::specs::Alu::binary_line, pvm_alu::specs::Alu::unary_line, pvm_alu::specs::Alu::test_line))]
+    #[tactic(auto, unfolding(crate::specs::Effect::line, crate::specs::Named::on_registers, pvm_isa::specs::Opcodes::entry, pvm_alu::specs::Alu::binary_line, pvm_alu::specs::Alu::unary_line, pvm_alu::specs::Alu::test_line, pvm_alu::specs::Alu::widen_line, pvm_alu::specs::Alu::loaded_bytes))]
     pub(crate) fn act_on_registers(
         &mut self,
         op: Op,
@@ -27,7 +28,7 @@ impl Machine {
         requires at { IsAt pc next skip bytes self.old }
         ensures acts { is_done result ≡ true → after_of self.new (exit_after result) ≡ outcome op self.old.program (state_of self.old) }
         ensures next { result ≡ Next → self.new.pc ≡ blob.next self.old.program self.old.pc }
-        ensures done { is_done result ≡ on_registers op }
+        ensures done { on_registers op ≡ true → is_done result ≡ true }
         ensures same { result ≡ Attempt.Beyond → self.new ≡ self.old }
         ensures rest { ChangesStateAlone self.old self.new }
     {
@@ -137,6 +138,28 @@ impl Machine {
             Op::MaxU => self.set_of_a_b(Op::MaxU, pc, next, skip, bytes),
             Op::Min => self.set_of_a_b(Op::Min, pc, next, skip, bytes),
             Op::MinU => self.set_of_a_b(Op::MinU, pc, next, skip, bytes),
+            Op::LoadU8 => self.try_load_at_x(Op::LoadU8, 1, pc, next, skip, bytes),
+            Op::LoadI8 => self.try_load_at_x(Op::LoadI8, 1, pc, next, skip, bytes),
+            Op::LoadU16 => self.try_load_at_x(Op::LoadU16, 2, pc, next, skip, bytes),
+            Op::LoadI16 => self.try_load_at_x(Op::LoadI16, 2, pc, next, skip, bytes),
+            Op::LoadU32 => self.try_load_at_x(Op::LoadU32, 4, pc, next, skip, bytes),
+            Op::LoadI32 => self.try_load_at_x(Op::LoadI32, 4, pc, next, skip, bytes),
+            Op::LoadU64 => self.try_load_at_x(Op::LoadU64, 8, pc, next, skip, bytes),
+            Op::LoadIndU8 => self.try_load_at_b_x(Op::LoadIndU8, 1, pc, next, skip, bytes),
+            Op::LoadIndI8 => self.try_load_at_b_x(Op::LoadIndI8, 1, pc, next, skip, bytes),
+            Op::LoadIndU16 => self.try_load_at_b_x(Op::LoadIndU16, 2, pc, next, skip, bytes),
+            Op::LoadIndI16 => self.try_load_at_b_x(Op::LoadIndI16, 2, pc, next, skip, bytes),
+            Op::LoadIndU32 => self.try_load_at_b_x(Op::LoadIndU32, 4, pc, next, skip, bytes),
+            Op::LoadIndI32 => self.try_load_at_b_x(Op::LoadIndI32, 4, pc, next, skip, bytes),
+            Op::LoadIndU64 => self.try_load_at_b_x(Op::LoadIndU64, 8, pc, next, skip, bytes),
+            Op::StoreU8 => self.try_store_a_at_x(Op::StoreU8, 1, pc, next, skip, bytes),
+            Op::StoreU16 => self.try_store_a_at_x(Op::StoreU16, 2, pc, next, skip, bytes),
+            Op::StoreU32 => self.try_store_a_at_x(Op::StoreU32, 4, pc, next, skip, bytes),
+            Op::StoreU64 => self.try_store_a_at_x(Op::StoreU64, 8, pc, next, skip, bytes),
+            Op::StoreIndU8 => self.try_store_a_at_b_x(Op::StoreIndU8, 1, pc, next, skip, bytes),
+            Op::StoreIndU16 => self.try_store_a_at_b_x(Op::StoreIndU16, 2, pc, next, skip, bytes),
+            Op::StoreIndU32 => self.try_store_a_at_b_x(Op::StoreIndU32, 4, pc, next, skip, bytes),
+            Op::StoreIndU64 => self.try_store_a_at_b_x(Op::StoreIndU64, 8, pc, next, skip, bytes),
             _ => Attempt::Beyond,
         }
     }

@@ -1,6 +1,6 @@
 // What came of an attempt at an instruction.
 
-/// What came of an attempt to do an instruction on the registers alone. It fits a processor's
+/// What came of an attempt to do an instruction on the registers, or by a load or a store that is allowed. It fits a processor's
 /// register, so that the run's loop moves no exit.
 #[derive(Clone, Copy, Debug, PartialEq, Eq)]
 pub enum Attempt {
@@ -10,6 +10,6 @@ pub enum Attempt {
     Jumped,
     /// It was done, and it panics.
     Panics,
-    /// Nothing was done: the opcode needs more than the registers.
+    /// Nothing was done: the opcode needs more, or its load or store is refused or wants memory.
     Beyond,
 }

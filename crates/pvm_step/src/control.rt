@@ -17,7 +17,7 @@ use crate::exit::Exit;
 use crate::machine::Machine;
 use pvm_alu::test;
 use pvm_isa::{
-    Op, one_immediate, one_offset, register_and_immediate, register_immediate_and_offset,
+    Op, one_immediate, one_offset, register_and_immediate_in, register_immediate_and_offset,
     register_immediate_and_offset_in, two_registers_and_offset_in,
     two_registers_and_two_immediates,
 };
@@ -80,7 +80,7 @@ impl Machine {
         ensures made { IsOk result }
         ensures rest { ChangesStateAlone self.old self.new }
     {
-        let args = register_and_immediate(self.program.code(), pc, skip);
+        let args = register_and_immediate_in(bytes, skip);
         let through = address_from(self.value(args.a), args.x);
         Ok(self.jump_through(through))
     }

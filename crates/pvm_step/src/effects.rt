@@ -106,6 +106,56 @@ impl Machine {
         }
     }
 
+    /// Sets a register to the bytes at an address, where they may be read; else nothing.
+    #[inline(always)]
+    #[tactic(auto, unfolding(crate::specs::Effect::after))]
+    pub(crate) fn try_load(
+        &mut self,
+        register: u8,
+        op: Op,
+        width: u8,
+        from: u32,
+        next: u64,
+    ) -> Attempt
+        requires register { register < 13 }
+        requires loads { IsTrue (alu.is_load op) }
+        requires width { alu.loaded_bytes op ≡ width }
+        requires size { IsTrue (is_width width) }
+        requires next { next ≡ blob.next self.old.program self.old.pc }
+        ensures acts { is_done result ≡ true → after_of self.new (exit_after result) ≡ after self.old.program (state_of self.old) (Loads register op from) }
+        ensures next { result ≡ Next → self.new.pc ≡ blob.next self.old.program self.old.pc }
+        ensures same { result ≡ Attempt.Beyond → self.new ≡ self.old }
+        ensures rest { ChangesStateAlone self.old self.new }
+    {
+        match self.memory.load(from, width) {
+            Ok(raw) => {
+                self.set_and_go_on(register, widen(op, raw), next);
+                Attempt::Next
+            }
+            Err(_) => Attempt::Beyond,
+        }
+    }
+
+    /// Stores the low bytes of a number at an address, where they may be written and no memory is wanted; else nothing.
+    #[inline(always)]
+    #[tactic(auto, unfolding(crate::specs::Effect::after))]
+    pub(crate) fn try_store(&mut self, width: u8, to: u32, number: u64, next: u64) -> Attempt
+        requires size { IsTrue (is_width width) }
+        requires next { next ≡ blob.next self.old.program self.old.pc }
+        ensures acts { is_done result ≡ true → after_of self.new (exit_after result) ≡ after self.old.program (state_of self.old) (Stores width to number) }
+        ensures next { result ≡ Next → self.new.pc ≡ blob.next self.old.program self.old.pc }
+        ensures same { result ≡ Attempt.Beyond → self.new ≡ self.old }
+        ensures rest { ChangesStateAlone self.old self.new }
+    {
+        match self.memory.store(to, width, number) {
+            Ok(()) => {
+                self.go_on(next);
+                Attempt::Next
+            }
+            Err(_) => Attempt::Beyond,
+        }
+    }
+
     /// Stores the low bytes of a value at an address.
     #[inline]
     #[tactic(auto, unfolding(crate::specs::Effect::after))]

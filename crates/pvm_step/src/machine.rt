@@ -97,7 +97,7 @@ impl Machine {
         self.program.fetch(pc)
     }
 
-    // The instruction, where it works on the registers alone. Else nothing.
+    // The instruction, where it works on the registers alone, or is a load or a store that is allowed. Else nothing.
     #[inline(always)]
     #[tactic(auto, unfolding(crate::specs::Effect::effect))]
     fn attempt(&mut self, at: Fetched) -> Attempt

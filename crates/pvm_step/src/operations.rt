@@ -14,8 +14,8 @@ use crate::attempt::Attempt;
 use crate::machine::Machine;
 use pvm_alu::{binary, unary};
 use pvm_isa::{
-    Op, register_and_immediate, register_and_wide_immediate, three_registers_in,
-    two_registers_and_immediate, two_registers_and_immediate_in, two_registers_in,
+    Op, register_and_immediate_in, register_and_wide_immediate, three_registers_in,
+    two_registers_and_immediate_in, two_registers_in,
 };
 
 impl Machine {
@@ -98,7 +98,7 @@ impl Machine {
         ensures done { is_done result ≡ true }
         ensures rest { ChangesStateAlone self.old self.new }
     {
-        let args = register_and_immediate(self.program.code(), pc, skip);
+        let args = register_and_immediate_in(bytes, skip);
         self.set_and_go_on(args.a, args.x, next);
         Attempt::Next
     }
@@ -129,7 +129,7 @@ impl Machine {
         ensures done { is_done result ≡ true }
         ensures rest { ChangesStateAlone self.old self.new }
     {
-        let args = two_registers_and_immediate(self.program.code(), pc, skip);
+        let args = two_registers_and_immediate_in(bytes, skip);
         let holds = self.value(args.b) == 0;
         self.move_where(holds, args.a, args.x, next);
         Attempt::Next
@@ -145,7 +145,7 @@ impl Machine {
         ensures done { is_done result ≡ true }
         ensures rest { ChangesStateAlone self.old self.new }
     {
-        let args = two_registers_and_immediate(self.program.code(), pc, skip);
+        let args = two_registers_and_immediate_in(bytes, skip);
         let holds = self.value(args.b) != 0;
         self.move_where(holds, args.a, args.x, next);
         Attempt::Next
