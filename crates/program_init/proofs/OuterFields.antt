@@ -2,8 +2,9 @@
 use Rattle.std.proofs.Common.{◌≡◌, ℕ, List, Result, Ok, Err, IfOk}
 use Rattle.std.specs.Prelude.{IfErr, MatchResult}
 use Rattle.jam_codec.specs.Format.{Spells, from, whole}
-use Rattle.jam_codec.specs.Laws.{AreBytes, Longest, SpellsNone, IsFileFormat}
-use Rattle.jam_codec.proofs.FormatLaws.{file_laws, refused-none}
+use Rattle.byte_numbers.specs.Numbers.{AreBytes}
+use Rattle.jam_codec.specs.Laws.{Longest, SpellsNone, IsFileFormat}
+use Rattle.jam_codec.specs.FormatLaws.{file_laws, refused-none}
 use Rattle.program_init.specs.declared.parts.Parts as read_parts
 use Rattle.program_init.specs.declared.refusal.NotStandard as refusal
 use Rattle.program_init.specs.Standard.{outer}

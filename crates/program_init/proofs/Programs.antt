@@ -1,8 +1,9 @@
 -- What deblob says of the bytes of the code.
 use Rattle.std.proofs.Common.{◌≡◌, ℕ, List, Result, Ok, Err, subst, sym, refl}
 use Rattle.jam_codec.specs.Format.{Spells, whole}
-use Rattle.jam_codec.specs.Laws.{AreBytes, SpellsNone, IsFileFormat}
-use Rattle.jam_codec.proofs.FormatLaws.{file_laws}
+use Rattle.byte_numbers.specs.Numbers.{AreBytes}
+use Rattle.jam_codec.specs.Laws.{SpellsNone, IsFileFormat}
+use Rattle.jam_codec.specs.FormatLaws.{file_laws}
 use Rattle.blob_decode.specs.Program.{Program, program_blob}
 use Rattle.blob_decode.specs.BlobLaws.{program_blob_laws}
 

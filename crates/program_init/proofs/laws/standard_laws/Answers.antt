@@ -1,4 +1,4 @@
-use Rattle.jam_codec.proofs.FormatLaws.{one_spelling, no_prefix}
+use Rattle.jam_codec.specs.FormatLaws.{one_spelling, no_prefix}
 use Rattle.program_init.specs.Standard.{standard_program}
 use Rattle.program_init.specs.StandardLaws.{standard_laws}
 use Rattle.program_init.proofs.laws.standard_laws.Goals as goal
