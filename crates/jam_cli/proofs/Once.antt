@@ -6,10 +6,11 @@ use Rattle.std.proofs.lemmas.Bool.{ltb-true}
 use Rattle.std.proofs.lemmas.Fmt.{decimal_injective}
 use Rattle.jam_codec.specs.Laws.{HasOneSpelling}
 use Rattle.blob_decode.specs.Program.{program_blob}
+use Rattle.program_init.specs.Standard.{standard_program}
 use Rattle.state_file.specs.StateFile.{state_format}
 use Rattle.batch_file.specs.BatchFile.{batch_format}
 use Rattle.jam_cli.specs.declared.verb.Kind.{Kind}
-use Rattle.jam_cli.specs.declared.verb.Kind.TheVariants.{Program, Bytes, State, Batch}
+use Rattle.jam_cli.specs.declared.verb.Kind.TheVariants.{Program, Standard, Bytes, State, Batch}
 use Rattle.jam_cli.specs.declared.verb.Verb.{Verb}
 use Rattle.jam_cli.specs.declared.verb.Verb.TheVariants.{Run}
 use Rattle.jam_cli.specs.Table.{Part, reads, stores, number, hexadecimal, row, Argument, Arguments, IsWord, AreWords, Fits, FitAll, Input, command, Asks, inputs, stored_name, NamesNone}
@@ -91,11 +92,12 @@ pub entry_named : EntryNamed
 entry_named c values p is = subst (λ (w : Work). IsNamed w (stored_name c)) is (named_of c.verb c.arguments values)
 
 -- each kind's files have one value, and files have one list of values
-pub one_of_each : HasOneSpelling program_blob → HasOneSpelling state_format → HasOneSpelling batch_format → (kind : Kind) → HasOneSpelling (format_of kind)
-one_of_each program state batch Program = program
-one_of_each program state batch Bytes = λ x y bytes p q. sym p.1 ∙ q.1
-one_of_each program state batch State = state
-one_of_each program state batch Batch = batch
+pub one_of_each : HasOneSpelling program_blob → HasOneSpelling standard_program → HasOneSpelling state_format → HasOneSpelling batch_format → (kind : Kind) → HasOneSpelling (format_of kind)
+one_of_each program standard state batch Program = program
+one_of_each program standard state batch Standard = standard
+one_of_each program standard state batch Bytes = λ x y bytes p q. sym p.1 ∙ q.1
+one_of_each program standard state batch State = state
+one_of_each program standard state batch Batch = batch
 
 pub spell_once : ((kind : Kind) → HasOneSpelling (format_of kind)) → SpellOnce
 spell_once one [] values others [] s t = refl

@@ -1,16 +1,20 @@
 -- The work of each command: what it prints and stores, or the line of a text that it refuses, as a function of its arguments and of the values of its files.
-use Rattle.std.specs.Prelude.{ℕ, ◌+◌, ◌-◌, List, [], ◌∷◌, length, map, Ok, Option, Some, None}
+use Rattle.std.specs.Prelude.{ℕ, ◌+◌, ◌-◌, List, [], ◌∷◌, ◌++◌, length, map, Ok, Option, Some, None}
 use Rattle.std.specs.FinMap as fin
 use Rattle.jam_codec.specs.Format.{Format, Spells, from}
 use Rattle.jam_codec.specs.Laws.{Longest}
 use Rattle.blob_decode.specs.Program as blob
+use Rattle.program_init.specs.Standard as standard
+use Rattle.program_init.specs.FirstState.{first_machine}
 use Rattle.pvm_step.specs.declared.exit.Exit.{Exit}
 use Rattle.pvm_step.specs.History.{Moment, answer, raw, output_of}
+use Rattle.pvm_step.specs.Machine.{moment}
 use Rattle.pvm_invoke.specs.Outcome.{Outcome}
 use Rattle.pvm_asm.specs.declared.kind.AsmKind.{AsmKind}
 use Rattle.trace_text.specs.declared.line.Line.{Line}
 use Rattle.trace_text.specs.declared.line.Line.TheVariants as of
 use Rattle.trace_text.specs.Transcript.{text_of, block, state_lines}
+use Rattle.trace_text.specs.Traces.{trace_lines}
 use Rattle.blake2b_core.specs.Blake2b.{digest}
 use Rattle.jam_accounts.specs.Accounts as services
 use Rattle.state_file.specs.StateFile.{state_format}
@@ -20,7 +24,7 @@ use Rattle.batch_accumulate.specs.declared.posterior.Posterior.{Posterior}
 use Rattle.batch_accumulate.specs.Batch.{posterior_of}
 use Rattle.jam_outside.specs.Files.{Files, content}
 use Rattle.jam_cli.specs.declared.verb.Kind.{Kind}
-use Rattle.jam_cli.specs.declared.verb.Kind.TheVariants.{Program, Bytes, State, Batch}
+use Rattle.jam_cli.specs.declared.verb.Kind.TheVariants.{Program, Standard, Bytes, State, Batch}
 use Rattle.jam_cli.specs.declared.verb.Verb.{Verb}
 use Rattle.jam_cli.specs.declared.verb.Verb.TheVariants as the
 use Rattle.jam_cli.specs.Table.{row, Input, Arguments, Command, command, inputs}
@@ -30,6 +34,7 @@ use Rattle.jam_cli.specs.Table.{row, Input, Arguments, Command, command, inputs}
 -- the type of the values of a kind
 abbrev pub ValueOf : Kind → Type 0
 ValueOf Program = blob.Program
+ValueOf Standard = standard.Standard blob.Program
 ValueOf Bytes = List ℕ
 ValueOf State = services.State
 ValueOf Batch = work_batch.Batch
@@ -40,6 +45,7 @@ all_bytes = record { Fits = λ x. Unit {0}; spell = λ x. x; Run = λ run. Unit 
 
 abbrev pub format_of : (kind : Kind) → Format (ValueOf kind)
 format_of Program = blob.program_blob
+format_of Standard = standard.standard_program
 format_of Bytes = all_bytes
 format_of State = state_format
 format_of Batch = batch_format
@@ -104,6 +110,13 @@ run_lines gas m (Some exit) = block (outcome_by gas m exit)
 abbrev pub run_work : blob.Program → ℕ → Work
 run_work program gas = let m : Moment = answer program (raw 0 gas) in prints (run_lines gas m m.exit)
 
+-- trace: the run of a standard program's machine; the lines of its last instructions, and its block
+abbrev pub trace_work : standard.Standard blob.Program → ℕ → ℕ → List ℕ → ℕ → Work
+trace_work program entry gas args last =
+    let first : Moment = moment (first_machine program entry gas args) None in
+    let m : Moment = answer program.code first in
+    prints (trace_lines last program.code first ++ run_lines gas m m.exit)
+
 -- show: the lines of the state
 abbrev pub show_work : services.State → Work
 show_work state = prints (state_lines state)
@@ -127,6 +140,7 @@ accumulate_work prior batch name =
 -- the work of a verb
 abbrev pub work_of : (verb : Verb) (arguments : Arguments (row verb).parts) → Values (kinds (inputs (command verb arguments))) → Work
 work_of the.Run arguments values = run_work values.0 arguments.1.0
+work_of the.Trace arguments values = trace_work values.0 arguments.1.0 arguments.1.1.0 arguments.1.1.1.0 arguments.1.1.1.1.0
 work_of the.Show arguments values = show_work values.0
 work_of the.Hash arguments values = hash_work values.0
 work_of the.Accumulate arguments values = accumulate_work values.0 values.1.0 arguments.1.1.0

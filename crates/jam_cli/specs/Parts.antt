@@ -12,7 +12,7 @@ use Rattle.jam_cli.specs.declared.status.Status.TheVariants as status
 use Rattle.jam_cli.specs.declared.refusal.Refusal.{Refusal}
 use Rattle.jam_cli.specs.declared.refusal.Refusal.TheVariants.{NoMemory, BadWords, ReadFault, TooLong, NotSpelled, BadLine, SinkFault, StoreFault}
 use Rattle.jam_cli.specs.declared.verb.Kind.{Kind}
-use Rattle.jam_cli.specs.declared.verb.Kind.TheVariants.{Program, Bytes, State, Batch}
+use Rattle.jam_cli.specs.declared.verb.Kind.TheVariants.{Program, Standard, Bytes, State, Batch}
 use Rattle.jam_cli.specs.declared.verb.Verb.{Verb}
 use Rattle.jam_cli.specs.declared.verb.Verb.TheVariants as the
 use Rattle.jam_cli.specs.declared.words.Command as parsed
@@ -35,6 +35,7 @@ use Rattle.jam_cli.specs.Ending.{Call, limit, AllRead, FirstTooLong, FirstRefuse
 -- what a command of the code stands for
 abbrev pub asked : parsed.Command → Command
 asked (of.Run blob gas) = command the.Run (blob.now, (gas.value, tt))
+asked (of.Trace standard entry gas args last) = command the.Trace (standard.now, (entry, (gas.value, (args.bytes.items, (last.value, tt)))))
 asked (of.Show state) = command the.Show (state.now, tt)
 asked (of.Hash file) = command the.Hash (file.now, tt)
 asked (of.Accumulate state batch posterior slice) = command the.Accumulate (state.now, (batch.now, (posterior.now, (slice, tt))))
@@ -72,6 +73,7 @@ KeepsDigest (kept.Digest d) bytes = d ≡ digest bytes
 abbrev pub IsKept : Kind → kept_file.Kept → List ℕ → Type 0
 IsKept Bytes k bytes = KeepsDigest k bytes
 IsKept Program k bytes = KeepsWhole k bytes
+IsKept Standard k bytes = KeepsWhole k bytes
 IsKept State k bytes = KeepsWhole k bytes
 IsKept Batch k bytes = KeepsWhole k bytes
 

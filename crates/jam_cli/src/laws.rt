@@ -3,6 +3,7 @@ ghost use Rattle.jam_cli.specs.Laws.{AskOnce, StoreApart, SpellOnce, RefuseOnce,
 
 use batch_file::batch_laws;
 use blob_decode::blob_laws;
+use program_init::standard_laws;
 use state_file::state_laws;
 
 /// What the clauses of [`jam`](crate::jam) say of a call is said of one command and one list of values:
@@ -18,6 +19,7 @@ pub fn command_laws()
 {
     // Each kind of files has its own law of one spelling.
     blob_laws();
+    standard_laws();
     state_laws();
     batch_laws();
 }

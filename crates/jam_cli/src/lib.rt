@@ -14,6 +14,7 @@ mod run;
 mod show;
 mod status;
 mod top;
+mod trace;
 mod values;
 mod verb;
 mod words;

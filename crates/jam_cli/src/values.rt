@@ -3,7 +3,7 @@ ghost use Rattle.std.specs.Prelude.{◌≡◌, ◌≢◌, List, ℕ, [], ◌∷�
 ghost use Rattle.jam_codec.specs.Format.{Spells};
 ghost use Rattle.blake2b_core.specs.Blake2b as blake2b;
 ghost use Rattle.jam_cli.specs.declared.verb.Kind.{Kind};
-ghost use Rattle.jam_cli.specs.declared.verb.Kind.TheVariants.{Program, Bytes, State, Batch};
+ghost use Rattle.jam_cli.specs.declared.verb.Kind.TheVariants.{Program, Standard, Bytes, State, Batch};
 ghost use Rattle.jam_cli.specs.Command.{File, ValueOf, format_of, kinds, Values, SpellAll};
 ghost use Rattle.jam_cli.specs.Parts.{inputs_in, first_bytes, later_files, IsKept, KeepsWhole, AreKept, OfFiles, IsNone, refused_as, NotAllSpelled};
 
@@ -15,6 +15,7 @@ use batch_file::{Batch, read_batch};
 use blob_decode::{Program, ProgramRefusal};
 use jam_accounts::State;
 use jam_codec::FileRefusal;
+use program_init::{StandardProgram, read_standard};
 use state_file::read_state;
 use std::alloc::Global;
 
@@ -44,6 +45,18 @@ impl Spelled for Program {
             Err(ProgramRefusal::NotProgram { place }) => Err(FileRefusal::Malformed { place }),
             Err(ProgramRefusal::NoMemory) => Err(FileRefusal::NoMemory),
         }
+    }
+
+    ghost whole = { λ e. Prim.cc e };
+}
+
+impl Spelled for StandardProgram {
+    ghost kind = { Standard };
+
+    ghost value = { λ s. s };
+
+    fn decode(alloc: Global, bytes: &[u8]) -> Result<StandardProgram, FileRefusal> {
+        read_standard(alloc, bytes)
     }
 
     ghost whole = { λ e. Prim.cc e };

@@ -7,6 +7,8 @@ ghost use Rattle.jam_cli.specs.Table.{row, verb_named};
 pub enum Kind {
     /// A program blob.
     Program,
+    /// A standard program.
+    Standard,
     /// Bytes as they are.
     Bytes,
     /// A state of services.
@@ -19,6 +21,7 @@ pub enum Kind {
 #[derive(Clone, Copy)]
 pub enum Verb {
     Run,
+    Trace,
     Show,
     Hash,
     Accumulate,
@@ -31,6 +34,7 @@ pub fn verb_of(word: &str) -> Option<Verb>
 {
     match word {
         "run" => Some(Verb::Run),
+        "trace" => Some(Verb::Trace),
         "show" => Some(Verb::Show),
         "hash" => Some(Verb::Hash),
         "accumulate" => Some(Verb::Accumulate),

@@ -5,8 +5,8 @@ ghost use Rattle.jam_cli.specs.declared.argument.Misfit.TheVariants.{OtherWords}
 ghost use Rattle.jam_cli.specs.Table.{Asks, AsksNothing, texts};
 ghost use Rattle.jam_cli.specs.Parts.{asked, IsLine, Parses};
 
-use crate::argument::{Misfit, is_text, name, number, small};
-use crate::number::Small;
+use crate::argument::{Misfit, hexadecimal, is_text, name, number, small};
+use crate::number::{ArgumentBytes, LineCount, Small};
 use crate::reads::Input;
 use crate::verb::{Kind, Verb, verb_of};
 use std::alloc::{AllocError, Global};
@@ -18,6 +18,15 @@ pub enum Command<'a> {
     Run {
         blob: &'a str,
         gas: Small,
+    },
+    /// `trace STANDARD ENTRY GAS ARGSHEX LAST`: runs a standard program from a place, with so much gas and these arguments,
+    /// and shows its last instructions.
+    Trace {
+        standard: &'a str,
+        entry: u64,
+        gas: Small,
+        args: ArgumentBytes,
+        last: LineCount,
     },
     /// `show STATE`: what a state holds.
     Show(&'a str),
@@ -69,6 +78,30 @@ fn run_of<'a>(alloc: Global, words: &'a [String]) -> Result<Line<'a>, Misfit>
     Ok(Line {
         command: Command::Run { blob, gas },
         inputs: vec![in alloc; input(1, blob, Kind::Program)]?,
+        stored: None,
+    })
+}
+
+fn trace_of<'a>(alloc: Global, words: &'a [String]) -> Result<Line<'a>, Misfit>
+    ensures { Parses the.Trace (texts words.now) result }
+{
+    let [standard, entry, gas, args, last] = words else {
+        return Err(Misfit::OtherWords);
+    };
+    let standard = name(standard)?;
+    let entry = number(alloc, entry, 0, 1 << 32)?;
+    let gas = small(alloc, gas)?;
+    let bytes = hexadecimal(alloc, args.as_str(), 0, 1 << 24)?;
+    let value = number(alloc, last, 1, 1001)?;
+    Ok(Line {
+        command: Command::Trace {
+            standard,
+            entry,
+            gas,
+            args: ArgumentBytes { bytes },
+            last: LineCount { value },
+        },
+        inputs: vec![in alloc; input(1, standard, Kind::Standard)]?,
         stored: None,
     })
 }
@@ -131,6 +164,7 @@ fn parse<'a>(alloc: Global, verb: Verb, words: &'a [String]) -> Result<Line<'a>,
 {
     match verb {
         Verb::Run => run_of(alloc, words),
+        Verb::Trace => trace_of(alloc, words),
         Verb::Show => show_of(alloc, words),
         Verb::Hash => hash_of(alloc, words),
         Verb::Accumulate => accumulate_of(alloc, words),

@@ -10,11 +10,12 @@ ghost use Rattle.jam_cli.specs.Parts.{asked, inputs_in, AreKept, WorkedOn};
 
 use crate::accumulate::accumulate;
 use crate::hash::hash;
-use crate::number::Small;
+use crate::number::{ArgumentBytes, LineCount, Small};
 use crate::reads::File;
 use crate::refusal::Refusal;
 use crate::run::run;
 use crate::show::show;
+use crate::trace::trace;
 use crate::values::{Contents, Digest, Whole};
 use crate::words::Command;
 use std::alloc::Global;
@@ -45,6 +46,23 @@ fn run_on<'a>(
 {
     let (Whole(program), ()) = Contents::decode_all(alloc, files)?;
     Ok(run(alloc, program, gas)?)
+}
+
+fn trace_on<'a>(
+    alloc: Global,
+    standard: &'a str,
+    entry: u64,
+    gas: Small,
+    args: &ArgumentBytes,
+    last: LineCount,
+    files: &[File<'_>],
+) -> Result<Work<'a>, Refusal>
+    requires kinds { kinds (inputs_in files.now) ≡ kind.Standard ∷ [] }
+    requires kept { AreKept files.now }
+    ensures { WorkedOn (command the.Trace (standard.now, (entry, (gas.value, (args.now.bytes.items, (last.value, tt)))))) files.now result }
+{
+    let (Whole(program), ()) = Contents::decode_all(alloc, files)?;
+    Ok(trace(alloc, &program, entry, gas, args, last)?)
 }
 
 fn show_on<'a>(alloc: Global, state: &'a str, files: &[File<'_>]) -> Result<Work<'a>, Refusal>
@@ -94,6 +112,13 @@ pub fn work_of<'a>(
 {
     match command {
         Command::Run { blob, gas } => run_on(alloc, *blob, *gas, files),
+        Command::Trace {
+            standard,
+            entry,
+            gas,
+            args,
+            last,
+        } => trace_on(alloc, *standard, *entry, *gas, args, *last, files),
         Command::Show(state) => show_on(alloc, *state, files),
         Command::Hash(file) => hash_on(alloc, *file, files),
         Command::Accumulate {

@@ -14,4 +14,4 @@ pub returns-clause-entry : goal.returns-clause-entry
 returns-clause-entry c = entry_named
 
 pub returns-clause-values : goal.returns-clause-values
-returns-clause-values c = spell_once (one_of_each c.blob_laws.ensures.one_value c.state_laws.ensures.one c.batch_laws.ensures.one_value)
+returns-clause-values c = spell_once (one_of_each c.blob_laws.ensures.one_value c.standard_laws.ensures.one_value c.state_laws.ensures.one c.batch_laws.ensures.one_value)
