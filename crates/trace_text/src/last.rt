@@ -1,7 +1,6 @@
 // A watcher that keeps the last instructions of a run.
-ghost use Rattle.std.specs.Prelude.{◌≡◌, ◌≤◌, [], List, IfOk};
-ghost use Rattle.circular_buffer.specs.Buffer.{buffer, keep_last};
-ghost use Rattle.pvm_step.specs.declared.watcher.PaidInstruction.{PaidInstruction};
+ghost use Rattle.std.specs.Prelude.{◌≡◌, [], IfOk};
+ghost use Rattle.circular_buffer.specs.Buffer.{buffer};
 ghost use Rattle.trace_text.specs.Traces.{most_lines};
 
 use circular_buffer::HeapCircularBuffer;
@@ -13,7 +12,7 @@ const MOST_LINES: usize = 1000;
 
 #[derive(Drop)]
 pub struct LastInstructions {
-    kept: HeapCircularBuffer<PaidInstruction, Global>,
+    pub kept: HeapCircularBuffer<PaidInstruction, Global>,
 }
 
 impl Watcher for LastInstructions {
@@ -24,6 +23,7 @@ impl Watcher for LastInstructions {
     ghost HasSeen = { λ w seen. w.kept ≡ buffer (keep_last most_lines seen) most_lines };
 
     #[inline]
+    #[tactic(auto, using(crate::proofs::KeptLast::last_and_next))]
     fn see(&mut self, instruction: PaidInstruction) {
         let _dropped = self.kept.push_back(instruction);
     }
@@ -37,19 +37,5 @@ impl LastInstructions {
         Ok(LastInstructions {
             kept: HeapCircularBuffer::with_capacity(alloc, MOST_LINES)?,
         })
-    }
-
-    /// The last so many of those that it keeps.
-    pub fn last(&self, alloc: Global, count: usize) -> Result<Vec<PaidInstruction>, AllocError>
-        ensures { IfOk result (λ last. last.items ≡ keep_last count self.now.kept.items) }
-    {
-        let mut last = Vec::new(alloc);
-        let kept = self.kept.len();
-        for place in kept.saturating_sub(count)..kept {
-            if let Some(instruction) = self.kept.get(place) {
-                last.push(*instruction)?;
-            }
-        }
-        Ok(last)
     }
 }
