@@ -1,6 +1,23 @@
-//! The assembler's language.
+//! The assembler: texts to program blobs, standard programs and code preimages.
 #![tactic(auto)]
 
+mod assembly;
+mod encode;
+mod fits;
+mod given;
+mod image;
+mod instruction;
+mod keyword;
 mod kind;
+mod labels;
+mod line;
+mod numeral;
+mod opcode;
+mod refusal;
+mod survey;
+mod word;
+mod words;
 
+pub use assembly::assemble;
 pub use kind::{AsmKind, kind_text};
+pub use refusal::AsmRefusal;

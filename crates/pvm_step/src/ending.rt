@@ -13,12 +13,14 @@ use crate::watcher::Watcher;
 use std::alloc::AllocError;
 
 impl Machine {
-    // Each instruction costs something.
+    // Each instruction costs something, and the gas is below 2^64.
     #[inline(always)]
-    fn has_schedule(&self)
-        ensures { IsSchedule self.now.costs }
+    fn is_bounded(&self)
+        ensures schedule { IsSchedule self.now.costs }
+        ensures gas { self.now.gas < 2 ^ 64 }
     {
         let _costs = self.costs.forms();
+        let _left = self.ledger.left();
     }
 
     /// Runs to the end, and tells the watcher of each instruction that is paid, in their order and numbered from 1.
@@ -34,7 +36,7 @@ impl Machine {
             × WasTold W.HasSeen watcher.old watcher.new (paid_instructions 1 self.old.program (states (n + 1) self.old.program (moment self.old None)))) }
         ensures wants { OnErr result (changes_memory (act_at self.new.program (state_of self.new)) ≡ true) }
     {
-        self.has_schedule();
+        self.is_bounded();
         match self.run_watched(u64::MAX, watcher)? {
             Progress::Ended(exit) => Ok(exit),
             // So many instructions cost all the gas that there can be.

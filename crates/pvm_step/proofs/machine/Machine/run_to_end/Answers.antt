@@ -1,4 +1,4 @@
-use Rattle.std.proofs.Common.{◌≡◌, ℕ, ◌≤◌, ap, sym, ◌∙◌, arith, None, Some}
+use Rattle.std.proofs.Common.{◌≡◌, ℕ, ◌≤◌, ap, sym, ◌∙◌, refl, arith, None, Some}
 use Rattle.pvm_step.specs.declared.exit.Exit.{Exit}
 use Rattle.pvm_step.specs.History.{Moment, reached, answer, history}
 use Rattle.pvm_step.specs.Machine.{moment, exit_in}
@@ -8,17 +8,33 @@ use Rattle.pvm_step.proofs.machine.Machine.run_to_end.Goals as goal
 
 pub returns-in-Ended-clause-answer : goal.returns-in-Ended-clause-answer
 returns-in-Ended-clause-answer g c =
-    let fuel : c.args.self.now.gas ≤ 18446744073709551615 = omega (arith, c.type_inv.self) in
-    let run : moment c.run_watched.new.self (exit_in c.in_ok-exit.field-0) ≡ reached 18446744073709551615 c.args.self.now.program (moment c.args.self.now None) = c.in_ok-exit.ensures.reached in
     let here : moment c.run_watched.new.self (Some c.in-Ended.exit) ≡ reached 18446744073709551615 c.args.self.now.program (moment c.args.self.now None) =
-    ap (λ o. moment c.run_watched.new.self (exit_in o)) (sym c.in-Ended.is) ∙ run in
-    here ∙ ended-answer 18446744073709551615 c.args.self.now.program (moment c.args.self.now None) c.has_schedule.ensures fuel c.in-Ended.exit (ap (λ (m : Moment). m.exit) (sym here))
+    ap (λ o. moment c.run_watched.new.self (exit_in o)) (sym c.in-Ended.is) ∙ c.in_ok-exit.ensures.reached in
+    here
+    ∙ ended-answer 18446744073709551615 c.args.self.now.program (moment c.args.self.now None) c.is_bounded.ensures.schedule (omega (arith, c.is_bounded.ensures.gas))
+    c.in-Ended.exit (ap (λ (m : Moment). m.exit) (sym here))
 
 pub returns-in-Ended-clause-told : goal.returns-in-Ended-clause-told
-returns-in-Ended-clause-told g c = ?
+returns-in-Ended-clause-told g c =
+    let here : moment c.run_watched.new.self (Some c.in-Ended.exit) ≡ reached 18446744073709551615 c.args.self.now.program (moment c.args.self.now None) =
+    ap (λ o. moment c.run_watched.new.self (exit_in o)) (sym c.in-Ended.is) ∙ c.in_ok-exit.ensures.reached in
+    told-same g.W.Watcher.HasSeen c.args.watcher.now c.run_watched.new.watcher _ _
+    (ended-told 18446744073709551615 c.args.self.now.program (moment c.args.self.now None) c.is_bounded.ensures.schedule (omega (arith, c.is_bounded.ensures.gas))
+    c.in-Ended.exit (ap (λ (m : Moment). m.exit) (sym here)))
+    c.in_ok-exit.ensures.told
 
 pub returns-in-Paused-clause-answer : goal.returns-in-Paused-clause-answer
-returns-in-Paused-clause-answer g c = ?
+returns-in-Paused-clause-answer g c =
+    let here : moment c.run_watched.new.self None ≡ reached 18446744073709551615 c.args.self.now.program (moment c.args.self.now None) =
+    ap (λ o. moment c.run_watched.new.self (exit_in o)) (sym c.in-Paused.is) ∙ c.in_ok-exit.ensures.reached in
+    paused-gas 18446744073709551615 c.args.self.now.program (moment c.args.self.now None) c.is_bounded.ensures.schedule (omega (arith, c.is_bounded.ensures.gas))
+    (moment c.run_watched.new.self None) here refl
 
 pub returns-in-Paused-clause-told : goal.returns-in-Paused-clause-told
-returns-in-Paused-clause-told g c = ?
+returns-in-Paused-clause-told g c =
+    let here : moment c.run_watched.new.self None ≡ reached 18446744073709551615 c.args.self.now.program (moment c.args.self.now None) =
+    ap (λ o. moment c.run_watched.new.self (exit_in o)) (sym c.in-Paused.is) ∙ c.in_ok-exit.ensures.reached in
+    told-same g.W.Watcher.HasSeen c.args.watcher.now c.run_watched.new.watcher _ _
+    (paused-told 18446744073709551615 c.args.self.now.program (moment c.args.self.now None) c.is_bounded.ensures.schedule (omega (arith, c.is_bounded.ensures.gas))
+    (ap (λ (m : Moment). m.exit) (sym here)))
+    c.in_ok-exit.ensures.told

@@ -1,0 +1,6 @@
+use Rattle.std.proofs.Common.{◌≡◌, ◌-◌, ◌++◌}
+use Rattle.jam_codec.specs.Spelling.{little_endian}
+use Rattle.pvm_asm.proofs.encode.push_low.Given as goal
+
+abbrev pub invariant-loop-byte : goal.invariant-loop-byte
+invariant-loop-byte l = l.out.items ++ little_endian (l.width - l._byte) l.left ≡ l.fn.out.items ++ little_endian l.width l.number
