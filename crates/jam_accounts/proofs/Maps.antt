@@ -1,6 +1,7 @@
 -- Maps of the program, seen as finite maps: look-ups, inserts and removals.
-use Rattle.std.proofs.Common.{◌≡◌, suc, Bool, true, false, cond, List, [], ◌∷◌, Some, None, Option, option_map, refl, sym, ap, subst, ◌∙◌, Ordering, length, arith, is_some, unwrap_or, IsSome, Result, Ok, Err, OnErr}
+use Rattle.std.proofs.Common.{◌≡◌, suc, Bool, true, false, cond, List, [], ◌∷◌, Some, None, Option, option_map, refl, sym, ap, subst, ◌∙◌, Ordering, length, is_some, unwrap_or, IsSome, Result, Ok, Err, OnErr}
 use Rattle.std.specs.Prelude.{T}
+use Rattle.std.proofs.lemmas.List.{nil_from_length}
 use Rattle.std.specs.declared.cmp.Ordering.TheVariants.{Less, Equal, Greater}
 use Rattle.std.specs.Ordering.{match_ordering, eq_by_cmp, is_eq, nat_cmp}
 use Rattle.std.specs.Cmp.{IsTotalOrder}
@@ -29,17 +30,13 @@ module _ {L X : Type 0} (R : L → L → Ordering) where
   find_is q [] = refl
   find_is q (e ∷ es) = ap (cond (is_at (R q) e.0) (Some e.1)) (find_is q es)
 
-nothing : {A : Type 0} (xs : List A) → length xs ≡ 0 → xs ≡ []
-nothing [] e = refl
-nothing (x ∷ xs) e = absurd (omega arith)
-
 module _ {L X : Type 0} (R : L → L → Ordering) where
   put_below : (k : L) (v : X) (es : List (L × X)) → AllByRecursion (λ y. R k y ≡ Less) (keys_of es) → put R k v es ≡ (k, v) ∷ es
   put_below k v [] h = refl
   put_below k v (e ∷ es) h = rw h.0 refl
 
   pub no_entries : fin.entries (fin.empty {X = X} {R = R}) ≡ []
-  no_entries = nothing (fin.entries (fin.empty {X = X} {R = R})) (sym (fin.len-entries (fin.empty {X = X} {R = R})) ∙ fin.len-empty R X)
+  no_entries = nil_from_length (fin.entries (fin.empty {X = X} {R = R})) (sym (fin.len-entries (fin.empty {X = X} {R = R})) ∙ fin.len-empty R X)
 
   entries-from_entries : IsTotalOrder R → (es : List (L × X)) → IsStrictlySortedBy R (keys_of es) → fin.entries (fin.from_entries {R = R} es) ≡ es
   entries-from_entries o [] s = no_entries

@@ -1,5 +1,5 @@
 -- Sums over the entries of a finite map, after an insert and after a removal.
-use Rattle.std.proofs.Common.{◌≡◌, ℕ, ◌+◌, ◌≤◌, Bool, true, false, cond, ◌&&◌, List, [], ◌∷◌, Some, None, Option, option_map, unwrap_or, refl, sym, ap, ◌∙◌, Ordering, arith}
+use Rattle.std.proofs.Common.{◌≡◌, ℕ, ◌+◌, ◌≤◌, Bool, true, false, cond, List, [], ◌∷◌, Some, None, Option, option_map, unwrap_or, refl, sym, ap, ◌∙◌, Ordering, arith}
 use Rattle.std.specs.Prelude.{T}
 use Rattle.std.specs.declared.cmp.Ordering.TheVariants.{Less, Equal, Greater}
 use Rattle.std.specs.Ordering.{eq_by_cmp, is_eq, is_lt}
@@ -15,32 +15,20 @@ use Rattle.std.proofs.lemmas.List.Sums.{sum_by-cons}
 use Rattle.std.proofs.lemmas.Map.{lookup-none}
 use Rattle.std.proofs.lemmas.Map.Keys.{sorted_tail}
 use Rattle.std.proofs.lemmas.Map.Entries.{none_below_head}
+use Rattle.jam_codec.specs.FormatLaws.{left_holds, right_holds, holds_less}
 use Rattle.jam_accounts.specs.Footprint.{weight_at}
 use Rattle.jam_accounts.proofs.Maps.{find_is}
 use Rattle.jam_accounts.specs.PutBackLaws.{equal}
 
-left_T : (a b : Bool) → T (a && b) → T a
-left_T true b p = tt
-left_T false b p = absurd p
-
-right_T : (a b : Bool) → T (a && b) → T b
-right_T true b p = p
-right_T false b p = absurd p
-
-less_T : (r : Ordering) → T (is_lt r) → r ≡ Less
-less_T Less h = refl
-less_T Equal h = absurd h
-less_T Greater h = absurd h
-
 module _ {K X : Type 0} (R : K → K → Ordering) where
   below_keys : (k : K) (es : List (K × X)) → T (below_all R k es) → AllByRecursion (λ y. R k y ≡ Less) (keys_of es)
   below_keys k [] h = tt
-  below_keys k (e ∷ es) h = (less_T (R k e.0) (left_T (is_lt (R k e.0)) (below_all R k es) h), below_keys k es (right_T (is_lt (R k e.0)) (below_all R k es) h))
+  below_keys k (e ∷ es) h = (holds_less (R k e.0) (left_holds (is_lt (R k e.0)) (below_all R k es) h), below_keys k es (right_holds (is_lt (R k e.0)) (below_all R k es) h))
 
   pub sorted_keys : (es : List (K × X)) → T (is_sorted R es) → IsStrictlySortedBy R (keys_of es)
   unfolding IsStrictlySortedBy
   sorted_keys [] h = tt
-  sorted_keys (e ∷ es) h = (below_keys e.0 es (left_T (below_all R e.0 es) (is_sorted R es) h), sorted_keys es (right_T (below_all R e.0 es) (is_sorted R es) h))
+  sorted_keys (e ∷ es) h = (below_keys e.0 es (left_holds (below_all R e.0 es) (is_sorted R es) h), sorted_keys es (right_holds (below_all R e.0 es) (is_sorted R es) h))
 
 abbrev weighed : {K X : Type 0} → (K × X → ℕ) → K → Option X → ℕ
 weighed f k found = unwrap_or (option_map (λ v. f (k, v)) found) 0

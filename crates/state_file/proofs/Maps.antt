@@ -1,6 +1,7 @@
 -- Maps that are made of ascending entries, and written entry by entry.
 use Rattle.std.proofs.Common.{◌≡◌, ℕ, suc, ◌<◌, ◌^◌, List, [], ◌∷◌, ◌++◌, length, map, ap, sym, ◌∙◌, refl, subst, arith, append-nil, append_assoc, Ordering, Option, Some, None, option_map, true, cond, Result, Ok, Err, OnOk}
 use Rattle.std.specs.Prelude.{T}
+use Rattle.std.proofs.lemmas.List.{nil_from_length}
 use Rattle.jam_codec.specs.Spelling.{natural}
 use Rattle.state_file.specs.StateFile.{under_digest}
 use Rattle.std.specs.declared.cmp.Ordering.TheVariants.{Less, Equal, Greater}
@@ -18,15 +19,11 @@ use Rattle.jam_fields.specs.SortedLaws.{insert_end, from_sorted_is, follows_last
 use Rattle.jam_codec.specs.FormatLaws.{left_holds, right_holds, holds_less}
 use Rattle.jam_fields.specs.ItemLaws.{items_spelled-append}
 
-nothing : {A : Type 0} (xs : List A) → length xs ≡ 0 → xs ≡ []
-nothing [] e = refl
-nothing (x ∷ xs) e = absurd (omega arith)
-
 module _ {K X : Type 0} {R : K → K → Ordering} (total : IsTotalOrder R) where
   pub none_put : (m : fin.FinMap R X) (left all : List (K × X)) → m ≡ fin.empty → left ≡ all → fin.entries m ++ left ≡ all
   none_put m left all none is =
       let size : length (fin.entries m) ≡ 0 = sym (fin.len-entries m) ∙ ap fin.len none ∙ fin.len-empty R X in
-      ap (λ (es : List (K × X)). es ++ left) (nothing (fin.entries m) size) ∙ is
+      ap (λ (es : List (K × X)). es ++ left) (nil_from_length (fin.entries m) size) ∙ is
 
   pub one_put : (m n : fin.FinMap R X) (left rest all : List (K × X)) (k : K) (v : X) → T (is_sorted R all) → fin.entries m ++ left ≡ all → left ≡ (k, v) ∷ rest → n ≡ fin.insert m k v → fin.entries n ++ rest ≡ all
   one_put m n left rest all k v sorted is next put =
@@ -36,7 +33,7 @@ module _ {K X : Type 0} {R : K → K → Ordering} (total : IsTotalOrder R) wher
 
   pub all_put : (m : fin.FinMap R X) (left all : List (K × X)) → T (is_sorted R all) → fin.entries m ++ left ≡ all → length left ≡ 0 → m ≡ fin.from_sorted {R = R} all
   all_put m left all sorted is none =
-      from_sorted_is R total m all (sym (append-nil (fin.entries m)) ∙ ap (λ (es : List (K × X)). fin.entries m ++ es) (sym (nothing left none)) ∙ is) sorted
+      from_sorted_is R total m all (sym (append-nil (fin.entries m)) ∙ ap (λ (es : List (K × X)). fin.entries m ++ es) (sym (nil_from_length left none)) ∙ is) sorted
 
   -- an entry is found at its key
   found_among : (front rest : List (K × X)) (k : K) (v : X) → T (is_sorted R (front ++ (k, v) ∷ rest)) → find R k (front ++ (k, v) ∷ rest) ≡ Some v
