@@ -1,6 +1,6 @@
 -- The last items of a list are the last of more of its last items.
-use Rattle.std.proofs.Common.{◌≡◌, ℕ, ◌+◌, ◌-◌, ◌≤◌, List, [], ◌∷◌, ◌++◌, length, length-append, drop, ap, sym, ◌∙◌, refl, arith}
-use Rattle.std.proofs.lemmas.List.{drop-drop, length-drop, drop-append-le}
+use Rattle.std.proofs.Common.{◌≡◌, ℕ, ◌+◌, ◌-◌, ◌≤◌, List, [], ◌∷◌, ◌++◌, length, length-append, drop, ap, sym, ◌∙◌, arith}
+use Rattle.std.proofs.lemmas.List.{drop-drop, length-drop, drop-append-le, drop_all}
 use Rattle.circular_buffer.specs.Buffer.{keep_last}
 
 module _ {X : Type 0} where
@@ -20,4 +20,4 @@ module _ {X : Type 0} where
       ap (keep_last n) (sym (drop-append-le (length xs - n) xs (x ∷ []) (omega arith))) ∙ kept_of_rest n (length xs - n) (xs ++ (x ∷ [])) (omega (arith, more))
 
   pub last_of_none : (n : ℕ) → keep_last {X = X} n [] ≡ []
-  last_of_none n = refl
+  last_of_none n = drop_all (length {A = X} [] - n) [] (omega arith)
