@@ -3,54 +3,27 @@ use Rattle.std.proofs.Common.{◌≡◌, ℕ, ◌+◌, [], ◌∷◌, ◌++◌, 
 use Rattle.std.specs.Prelude.{if◌then◌else◌}
 use Rattle.std.specs.Option.{option_and_then}
 use Rattle.std.specs.Ordering.{nat_cmp, eq_by_cmp, is_eq}
-use Rattle.std.specs.declared.cmp.Ordering.{Ordering}
-use Rattle.std.specs.declared.cmp.Ordering.TheVariants.{Less, Equal, Greater}
 use Rattle.std.specs.Cmp.{nat_cmp_total, tied_itself}
 use Rattle.std.specs.FinMap as fin
 use Rattle.std.specs.FinMap.{nat_cmp-IsAntisymmetric}
 use Rattle.jam_accounts.specs.Accounts.{Account, Accounts}
+use Rattle.jam_accounts.specs.PutBackLaws.{equal, inserted_twice, inserted_same}
 use Rattle.jam_accounts.specs.Receipt.{received, with_preimage, history_after}
 use Rattle.batch_file.specs.declared.delivery.Delivery.{Delivery}
 use Rattle.batch_accumulate.specs.Deliveries.{Delivered, none_stored, with_account, after_delivery, after_deliveries, undelivered}
-
-equal : (order : Ordering) → is_eq order ≡ true → order ≡ Equal
-equal Less e = absurd (cc e)
-equal Equal e = refl
-equal Greater e = absurd (cc e)
-
-later_stays : (b : Bool) (later earlier other : Option Account) → cond b later (cond b earlier other) ≡ cond b later other
-later_stays true later earlier other = refl
-later_stays false later earlier other = refl
 
 module _ (accounts : Accounts) (id : ℕ) where
   -- what was put is there
   pub get-inserted : (account : Account) → fin.get (fin.insert accounts id account) id ≡ Some account
   get-inserted account = fin.get-insert nat_cmp_total accounts id account id ∙ ap (λ order. cond (is_eq order) (Some account) (fin.get accounts id)) (tied_itself nat_cmp_total id)
 
-  inserted_twice : (first second : Account) → fin.insert (fin.insert accounts id first) id second ≡ fin.insert accounts id second
-  inserted_twice first second = fin.same_map nat_cmp_total nat_cmp-IsAntisymmetric (fin.insert (fin.insert accounts id first) id second) (fin.insert accounts id second) (λ q.
-      fin.get-insert nat_cmp_total (fin.insert accounts id first) id second q ∙ ap (cond (eq_by_cmp nat_cmp q id) (Some second)) (fin.get-insert nat_cmp_total accounts id first q)
-      ∙ later_stays (eq_by_cmp nat_cmp q id) (Some second) (Some first) (fin.get accounts q) ∙ sym (fin.get-insert nat_cmp_total accounts id second q))
-
-  as_it_was : (q : ℕ) (there : Option Account) (b : Bool) → eq_by_cmp nat_cmp q id ≡ b → fin.get accounts id ≡ there → cond b there (fin.get accounts q) ≡ fin.get accounts q
-  as_it_was q there true same is = sym is ∙ ap (fin.get accounts) (sym (nat_cmp-IsAntisymmetric q id (equal (nat_cmp q id) same)))
-  as_it_was q there false same is = refl
-
-  inserted_same : (account : Account) → fin.get accounts id ≡ Some account → fin.insert accounts id account ≡ accounts
-  inserted_same account there = fin.same_map nat_cmp_total nat_cmp-IsAntisymmetric (fin.insert accounts id account) accounts (λ q.
-      fin.get-insert nat_cmp_total accounts id account q ∙ as_it_was q (Some account) (eq_by_cmp nat_cmp q id) refl there)
-
   -- an account for which another stood in the meantime is put back as it was
   pub put_back : (other account : Account) (meanwhile after : Accounts) → Some account ≡ fin.get accounts id → meanwhile ≡ fin.insert accounts id other → after ≡ fin.insert meanwhile id account → after ≡ accounts
-  put_back other account meanwhile after there put back = back ∙ ap (λ m. fin.insert m id account) put ∙ inserted_twice other account ∙ inserted_same account (sym there)
-
-  pub none_delivered : (slot n : ℕ) (bytes : List ℕ) → fin.get accounts id ≡ None
-      → record { accounts = accounts; stored = n } ≡ with_account (record { accounts = accounts; stored = n }) id (option_and_then (received slot bytes) (fin.get accounts id))
-  none_delivered slot n bytes none = ap (λ (found : Option Account). with_account (record { accounts = accounts; stored = n }) id (option_and_then (received slot bytes) found)) (sym none)
+  put_back other account meanwhile after there put back = back ∙ ap (λ m. fin.insert m id account) put ∙ inserted_twice nat_cmp_total nat_cmp-IsAntisymmetric accounts id other account ∙ inserted_same nat_cmp_total nat_cmp-IsAntisymmetric accounts id account (sym there)
 
   changed : (n : ℕ) (account : Account) (r : Option Account) → fin.get accounts id ≡ Some account
       → record { accounts = fin.insert accounts id (unwrap_or r account); stored = if is_some r then n + 1 else n } ≡ with_account (record { accounts = accounts; stored = n }) id r
-  changed n account None there = ap (λ (m : Accounts). record { accounts = m; stored = n }) (inserted_same account there)
+  changed n account None there = ap (λ (m : Accounts). record { accounts = m; stored = n }) (inserted_same nat_cmp_total nat_cmp-IsAntisymmetric accounts id account there)
   changed n account (Some next) there = refl
 
   pub one_delivered : (slot n : ℕ) (bytes : List ℕ) (other account next : Account) (meanwhile after : Accounts) (stored : Bool)
@@ -59,7 +32,7 @@ module _ (accounts : Accounts) (id : ℕ) where
       → record { accounts = after; stored = if stored then n + 1 else n } ≡ with_account (record { accounts = accounts; stored = n }) id (option_and_then (received slot bytes) (fin.get accounts id))
   one_delivered slot n bytes other account next meanwhile after stored there put back whether what =
       let in_place : after ≡ fin.insert accounts id (unwrap_or (received slot bytes account) account) =
-      back ∙ (λ i. fin.insert (put i) id (what i)) ∙ inserted_twice other (unwrap_or (received slot bytes account) account) in
+      back ∙ (λ i. fin.insert (put i) id (what i)) ∙ inserted_twice nat_cmp_total nat_cmp-IsAntisymmetric accounts id other (unwrap_or (received slot bytes account) account) in
       (λ i. record { accounts = in_place i; stored = if whether i then n + 1 else n })
       ∙ changed n account (received slot bytes account) (sym there)
       ∙ ap (λ (found : Option Account). with_account (record { accounts = accounts; stored = n }) id (option_and_then (received slot bytes) found)) there

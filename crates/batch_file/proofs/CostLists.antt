@@ -4,11 +4,11 @@ use Rattle.std.specs.Prelude.{slice_set}
 use Rattle.std.specs.List.{All, list_all}
 use Rattle.std.proofs.lemmas.Grind.{take-set_at, common_steps}
 use Rattle.std.proofs.lemmas.Bool.{and_parts}
-use Rattle.jam_codec.specs.Spelling.{little_endian}
+use Rattle.byte_numbers.specs.Numbers.{little_endian}
 use Rattle.jam_codec.specs.Reading.{Reading, Refuses, fixed_at, ◌>>=◌}
 use Rattle.jam_codec.specs.Format.{Format, any, fixed_where, items_at, items_fit, items_spelled}
-use Rattle.jam_codec.proofs.Formats.{chain_ok, ok_parts, passing_ok}
-use Rattle.jam_fields.proofs.Items.{Ahead, none_read, one_read, one_refused, all_read}
+use Rattle.jam_codec.specs.FormatLaws.{chain_ok, ok_parts, passing_ok}
+use Rattle.jam_fields.specs.ItemLaws.{Ahead, none_read, one_read, one_refused, all_read}
 
 abbrev pub cost : ℕ → ℕ → Option ℕ → Format ℕ
 cost width least last = fixed_where width (nat_le least)

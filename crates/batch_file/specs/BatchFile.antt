@@ -76,12 +76,12 @@ unscheduled_format =
     unscheduled_fields
 
 -- n numbers of `width` bytes, each at least so much
-abbrev pub costs_of : ℕ → ℕ → ℕ → Format (List ℕ)
-costs_of width least n = times (λ last. fixed_where width (nat_le least)) n
+abbrev pub costs_format : ℕ → ℕ → ℕ → Format (List ℕ)
+costs_format width least n = times (λ last. fixed_where width (nat_le least)) n
 
 -- 13 numbers u1, of the forms 1 to 13; 28 numbers u2, of the calls 0 to 26 and then of all others
 abbrev pub schedule_format : Format Schedule
-schedule_format = by (λ p. record { forms = p.0; calls = p.1 }) (λ s. (s.forms, s.calls)) (both (costs_of 1 1 13) (λ _. costs_of 2 10 28))
+schedule_format = by (λ p. record { forms = p.0; calls = p.1 }) (λ s. (s.forms, s.calls)) (both (costs_format 1 1 13) (λ _. costs_format 2 10 28))
 
 abbrev pub scheduled : Unscheduled × Option Schedule → Batch
 scheduled p = record { slot = p.0.slot; entropy = p.0.entropy; gas = p.0.gas; reports = p.0.reports; preimages = p.0.preimages; schedule = p.1 }

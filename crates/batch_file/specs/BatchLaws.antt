@@ -5,11 +5,11 @@ use Rattle.std.proofs.lemmas.Bool.Decides.{nat_tests}
 use Rattle.jam_codec.specs.Format.{any, both, fixed_where, bytes_where}
 use Rattle.jam_codec.specs.Lists.{blob_where, up_to, behind_one, with_tail}
 use Rattle.jam_codec.specs.Laws.{IsFormat, IsFileFormat}
-use Rattle.jam_codec.proofs.FormatLaws.{both_laws, by_laws, times_laws, fixed_laws, bytes_laws, blob_laws, list_laws, nothing_laws, behind_one_laws, behind_one_some, tail_laws, by_file_laws}
+use Rattle.jam_codec.specs.FormatLaws.{both_laws, by_laws, times_laws, fixed_laws, bytes_laws, blob_laws, list_laws, nothing_laws, behind_one_laws, behind_one_some, tail_laws, by_file_laws}
 use Rattle.batch_file.specs.declared.result.WorkResult.{WorkResult}
 use Rattle.batch_file.specs.declared.result.WorkResult.TheVariants.{Output, OutOfGas, Panic, NoCode}
 use Rattle.batch_file.specs.Limits.{report_limit, item_limit}
-use Rattle.batch_file.specs.BatchFile.{tagged_result, tag_and_bytes, behind_tag, result_format, item_fields, item_format, items_format, report_format, reports_format, delivery_format, deliveries_format, unscheduled_fields, unscheduled_format, costs_of, schedule_format, scheduled, unscheduled, batch_format}
+use Rattle.batch_file.specs.BatchFile.{tagged_result, tag_and_bytes, behind_tag, result_format, item_fields, item_format, items_format, report_format, reports_format, delivery_format, deliveries_format, unscheduled_fields, unscheduled_format, costs_format, schedule_format, scheduled, unscheduled, batch_format}
 
 behind_tag_laws : (tag : ℕ) → IsFormat (behind_tag tag)
 behind_tag_laws zero = blob_laws any
@@ -76,12 +76,12 @@ unscheduled_laws =
     (λ p h. refl)
     (λ b h. refl)
 
-costs_laws : (width least n : ℕ) → IsFormat (costs_of width least n)
+costs_laws : (width least n : ℕ) → IsFormat (costs_format width least n)
 costs_laws width least n = times_laws (λ last. fixed_where width (nat_le least)) (λ last. fixed_laws width (nat_le least)) n
 
 pub schedule_laws : IsFormat schedule_format
 schedule_laws =
-    by_laws (λ p. record { forms = p.0; calls = p.1 }) (λ s. (s.forms, s.calls)) (both (costs_of 1 1 13) (λ _. costs_of 2 10 28))
+    by_laws (λ p. record { forms = p.0; calls = p.1 }) (λ s. (s.forms, s.calls)) (both (costs_format 1 1 13) (λ _. costs_format 2 10 28))
     (both_laws _ _ (costs_laws 1 1 13) (λ _. costs_laws 2 10 28))
     (λ p h. refl)
     (λ s h. refl)

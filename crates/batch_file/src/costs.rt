@@ -4,7 +4,7 @@ ghost use Rattle.jam_codec.specs.Format.{fixed_where};
 ghost use Rattle.jam_codec.specs.Lists.{behind_one};
 ghost use Rattle.jam_codec.specs.Reading.{Reads};
 ghost use Rattle.jam_codec.specs.Refusal.{place_of};
-ghost use Rattle.batch_file.specs.BatchFile.{costs_of, schedule_format};
+ghost use Rattle.batch_file.specs.BatchFile.{costs_format, schedule_format};
 ghost use Rattle.batch_file.specs.BatchLaws.{schedule_laws};
 
 use gas_ledger::Schedule;
@@ -20,11 +20,11 @@ pub struct Costs {
 }
 
 impl Model for Costs {
-    ghost use Rattle.gas_ledger.specs.Schedule.{Schedule, schedule_code};
+    ghost use Rattle.gas_ledger.specs.Schedule.{Schedule, coded_schedule};
 
     ghost Value = { Schedule };
 
-    ghost coded = { schedule_code };
+    ghost coded = { coded_schedule };
 
     ghost view = { λ c. c.schedule };
 }
@@ -53,7 +53,7 @@ fn read_cost(cursor: &mut Cursor<'_>, width: u8, least: u64) -> Result<u64, File
 }
 
 fn read_forms(cursor: &mut Cursor<'_>) -> Result<[u8; 13], FileRefusal>
-    ensures exact { Reads place_of (λ forms. forms) result cursor.new ((costs_of 1 1 13).read cursor.old) }
+    ensures exact { Reads place_of (λ forms. forms) result cursor.new ((costs_format 1 1 13).read cursor.old) }
 {
     let mut forms = [1; 13];
     for form in 0..13usize {
@@ -63,7 +63,7 @@ fn read_forms(cursor: &mut Cursor<'_>) -> Result<[u8; 13], FileRefusal>
 }
 
 fn read_calls(cursor: &mut Cursor<'_>) -> Result<[u16; 28], FileRefusal>
-    ensures exact { Reads place_of (λ calls. calls) result cursor.new ((costs_of 2 10 28).read cursor.old) }
+    ensures exact { Reads place_of (λ calls. calls) result cursor.new ((costs_format 2 10 28).read cursor.old) }
 {
     let mut calls = [10; 28];
     for call in 0..28usize {

@@ -1,25 +1,25 @@
--- The words of a block.
-use Rattle.std.proofs.Common.{◌≡◌, ℕ, zero, suc, ◌+◌, ◌*◌, ◌<◌, List, length, drop, slice_index, refl, sym, ◌∙◌, ap, arith}
-use Rattle.std.proofs.lemmas.List.{drop-drop}
+-- The words of a block, and the bytes of words.
+use Rattle.std.proofs.Common.{◌≡◌, ℕ, ◌*◌, ◌<◌, ◌≤◌, List, length, drop, slice_index, sym, ◌∙◌, ap, arith}
+use Rattle.std.specs.List.{flat_map}
 use Rattle.std.proofs.lemmas.Grind.{same_number_lists}
-use Rattle.byteorder.specs.Endian.{little_number, IsRead}
-use Rattle.blake2b_core.specs.Blake2b.{words}
+use Rattle.std.proofs.lemmas.List.{length-drop}
+use Rattle.std.proofs.lemmas.Option.{get_or_from_slice_get}
+use Rattle.byteorder.specs.Endian as endian
+use Rattle.byte_numbers.specs.Numbers.{little_endian, number_at, numbers}
+use Rattle.byte_numbers.specs.NumberLaws.{bytes-little_endian, length-numbers, little_from-front, numbers-get}
 
-words_length : (n : ℕ) (bytes : List ℕ) → length (words n bytes) ≡ n
-unfolding words
-words_length zero bytes = refl
-words_length (suc n) bytes = ap suc (words_length n (drop 8 bytes))
-
-word_at : (n k : ℕ) (bytes : List ℕ) → k < n → slice_index (words n bytes) k ≡ little_number 8 (drop (8 * k) bytes)
-unfolding words
-word_at zero k bytes below = absurd (omega arith)
-word_at (suc n) zero bytes below = refl
-word_at (suc n) (suc k) bytes below =
-    let place : 8 + 8 * k ≡ 8 * suc k = omega arith in
-    word_at n k (drop 8 bytes) (omega arith) ∙ ap (little_number 8) (drop-drop (8 * k) 8 bytes ∙ ap (λ (i : ℕ). drop i bytes) (omega arith))
+word_at : (n k : ℕ) (bytes : List ℕ) → 8 * n ≤ length bytes → k < n → endian.little_number 8 (drop (8 * k) bytes) ≡ slice_index (numbers 8 n bytes) k
+word_at n k bytes room below =
+    let place : k * 8 ≡ 8 * k = omega arith in
+    little_from-front 8 (drop (8 * k) bytes) (omega (arith, length-drop (8 * k) bytes))
+    ∙ ap (λ (i : ℕ). number_at bytes i 8) (sym place)
+    ∙ sym (get_or_from_slice_get (numbers 8 n bytes) k (number_at bytes (k * 8) 8) 0 (numbers-get 8 n k bytes below))
 
 -- words that were read from bytes one after another are their words
-pub words_read : (n : ℕ) (bytes found : List ℕ) → length found ≡ n → IsRead little_number 8 bytes found → found ≡ words n bytes
-words_read n bytes found size read =
-    same_number_lists found (words n bytes) (size ∙ sym (words_length n bytes)) (λ k below.
-    read k below ∙ sym (word_at n k bytes (omega arith)))
+pub words_read : (n : ℕ) (bytes found : List ℕ) → 8 * n ≤ length bytes → length found ≡ n → endian.IsRead endian.little_number 8 bytes found → found ≡ numbers 8 n bytes
+words_read n bytes found room size read =
+    same_number_lists found (numbers 8 n bytes) (size ∙ sym (length-numbers 8 n bytes)) (λ k below. read k below ∙ word_at n k bytes room (omega arith))
+
+-- the bytes of words, each with its lowest byte first
+pub words_spelled : (words : List ℕ) → flat_map (endian.little_bytes 8) words ≡ flat_map (little_endian 8) words
+words_spelled words = ap (λ (f : ℕ → List ℕ). flat_map f words) (λ i x. bytes-little_endian 8 x i)

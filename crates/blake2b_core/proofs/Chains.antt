@@ -1,7 +1,7 @@
 -- The chain as an input grows by blocks.
 use Rattle.std.proofs.Common.{◌≡◌, ℕ, zero, suc, ◌+◌, ◌-◌, ◌*◌, ◌≤◌, true, false, List, [], ◌∷◌, ◌++◌, length, take, drop, get_or, refl, ap, ◌∙◌, arith, length-drop}
 use Rattle.std.proofs.lemmas.List.{append-nil, drop-append-le, drop-drop, drop_at, take-append-le, take_all}
-use Rattle.blake2b_core.specs.Blake2b.{compress, blocks, filled, before_last, initial_chain, chained, final_chain, data_blocks}
+use Rattle.blake2b_core.specs.Blake2b.{compress, blocks, filled, blocks_before_last, initial_chain, chained, final_chain, data_blocks}
 use Rattle.blake2b_core.specs.Hasher.{chain_after}
 
 -- ---- blocks
@@ -86,11 +86,11 @@ chain_after-next n bytes block at size =
     rw place at (chained-next n 0 initial_chain bytes block (ap (take 128) at ∙ take_all 128 block (omega arith)) size)
 
 -- the chain at the end of an input, from the bytes of its last block
-pub final_chain_is : (bytes last : List ℕ) → drop (128 * before_last bytes) bytes ≡ last
-    → final_chain (length bytes) (data_blocks bytes) ≡ compress (chain_after (before_last bytes) bytes) (filled last) (length bytes) true
+pub final_chain_is : (bytes last : List ℕ) → drop (128 * blocks_before_last bytes) bytes ≡ last
+    → final_chain (length bytes) (data_blocks bytes) ≡ compress (chain_after (blocks_before_last bytes) bytes) (filled last) (length bytes) true
 unfolding final_chain
 final_chain_is bytes last at =
-    let q : ℕ = before_last bytes in
+    let q : ℕ = blocks_before_last bytes in
     let ds : List (List ℕ) = blocks (suc q) bytes in
     let all : data_blocks bytes ≡ ds = ap (λ (n : ℕ). blocks n bytes) (omega arith) in
     let place : length ds - 1 ≡ q = omega (arith, length-blocks (suc q) bytes) in

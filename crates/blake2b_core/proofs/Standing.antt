@@ -1,7 +1,7 @@
 -- The bytes that a hasher stands for, as further bytes come.
 use Rattle.std.proofs.Common.{◌≡◌, ℕ, ◌+◌, ◌*◌, ◌/◌, ◌%◌, ◌<◌, ◌≤◌, true, false, List, ◌++◌, length, take, drop, refl, sym, ap, ◌∙◌, arith, length-append}
 use Rattle.std.proofs.lemmas.List.{append_assoc, drop-append-le, drop_at, take-append-drop, take_all}
-use Rattle.blake2b_core.specs.Blake2b.{compress, blocks, filled, before_last, chained, final_chain, data_blocks}
+use Rattle.blake2b_core.specs.Blake2b.{compress, blocks, filled, blocks_before_last, chained, final_chain, data_blocks}
 use Rattle.blake2b_core.specs.Hasher.{waiting, hashing, chain_after, StandsFor}
 use Rattle.blake2b_core.proofs.Chains.{chain_after-append, chain_after-more, chain_after-next, final_chain_is}
 
@@ -10,11 +10,11 @@ pub stands_held : (chain block new bytes all : List ℕ) (count : ℕ) → Stand
     → waiting count + length bytes ≤ 128 → take (waiting count + length bytes) new ≡ take (waiting count) block ++ bytes
     → StandsFor (hashing chain (count + length bytes) new) (all ++ bytes)
 stands_held chain block new bytes all count s room put =
-    let q : ℕ = before_last all in
+    let q : ℕ = blocks_before_last all in
     let counted = s.counted in
     let size = length-append all bytes in
     let covered : 128 * q ≤ length all = omega arith in
-    let same : before_last (all ++ bytes) ≡ q = omega arith in
+    let same : blocks_before_last (all ++ bytes) ≡ q = omega arith in
     let width : waiting (count + length bytes) ≡ waiting count + length bytes = omega arith in
     record {
       counted = omega arith;
@@ -32,7 +32,7 @@ pub stands_passed : (chain first new block full left front whole tail all : List
     → 0 < length tail → length tail ≤ 128 → take (length tail) left ≡ tail
     → StandsFor (hashing new (count + length front + length whole + length tail) left) (all ++ front ++ whole ++ tail)
 stands_passed chain first new block full left front whole tail all count s fills full_size put compressed whole_size passed some short held =
-    let q : ℕ = before_last all in
+    let q : ℕ = blocks_before_last all in
     let k : ℕ = length whole / 128 in
     let filled_up : List ℕ = all ++ front in
     let counted : count ≡ length all = s.counted in
@@ -51,7 +51,7 @@ stands_passed chain first new block full left front whole tail all count s fills
     let whole_end : length (filled_up ++ whole) ≡ 128 * (q + 1 + k) = omega (arith, length-append filled_up whole) in
     let end : length (filled_up ++ whole ++ tail) ≡ 128 * (q + 1 + k) + length tail = omega (arith, length-append (filled_up ++ whole) tail) in
     let total : count + length front + length whole + length tail ≡ 128 * (q + 1 + k) + length tail = omega (arith, length-append filled_up whole) in
-    let before : before_last (filled_up ++ whole ++ tail) ≡ q + 1 + k = omega arith in
+    let before : blocks_before_last (filled_up ++ whole ++ tail) ≡ q + 1 + k = omega arith in
     let width : waiting (count + length front + length whole + length tail) ≡ length tail = omega arith in
     record {
       counted = total ∙ sym end;

@@ -1,6 +1,6 @@
 -- What a hasher holds of the bytes that came, and the bytes that it stands for.
 use Rattle.std.specs.Prelude.{◌≡◌, ℕ, ◌-◌, ◌*◌, ◌/◌, List, length, take, drop}
-use Rattle.blake2b_core.specs.Blake2b.{blocks, before_last, initial_chain, chained}
+use Rattle.blake2b_core.specs.Blake2b.{blocks, blocks_before_last, initial_chain, chained}
 
 -- the chain after the blocks that are compressed, how many bytes came, and those of them not compressed yet
 pub record Hashing : Type 0 where
@@ -23,5 +23,5 @@ chain_after n all = chained initial_chain 0 (blocks n all)
 -- all the bytes came: the blocks before the last are compressed, and the last is held
 pub record StandsFor (hasher : Hashing) (all : List ℕ) : Type 0 where
   pub counted : hasher.count ≡ length all
-  pub compressed : hasher.chain ≡ chain_after (before_last all) all
-  pub last : hasher.held ≡ drop (128 * before_last all) all
+  pub compressed : hasher.chain ≡ chain_after (blocks_before_last all) all
+  pub last : hasher.held ≡ drop (128 * blocks_before_last all) all

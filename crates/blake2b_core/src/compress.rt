@@ -1,7 +1,8 @@
 // The compression function F (RFC 7693, 3.2), one block of 128 bytes at a time.
 ghost use Rattle.std.specs.Prelude.{◌≡◌, ◌<◌, IsTrue, length, nat_lt, slice_index};
 ghost use Rattle.std.specs.List.{list_all};
-ghost use Rattle.blake2b_core.specs.Blake2b.{half_mix, mix, round, work_vector, words, two_halves, compress};
+ghost use Rattle.blake2b_core.specs.Blake2b.{half_mix, mix, round, work_vector, two_halves, compress};
+ghost use Rattle.byte_numbers.specs.Numbers.{numbers};
 
 use byteorder::{ByteOrder, LittleEndian};
 
@@ -141,7 +142,7 @@ fn work_vector(chain: &[u64; 8], count: u64, last: bool) -> [u64; 16]
 // The words of a block.
 fn block_words(block: &[u8]) -> [u64; 16]
     requires { length block.now ≡ 128 }
-    ensures { result ≡ words 16 block.now }
+    ensures { result ≡ numbers 8 16 block.now }
 {
     let mut found = [0u64; 16];
     LittleEndian::read_u64_into(block, &mut found);

@@ -3,12 +3,13 @@ use Rattle.std.proofs.Common.{◌≡◌, ℕ, ◌*◌, ◌/◌, ◌%◌, ◌^◌
 use Rattle.std.specs.Prelude.{◌==◌, if◌then◌else◌, is_some, unwrap_or}
 use Rattle.std.proofs.lemmas.Bool.{cases_lt, le-ltb, lt-ltb}
 use Rattle.std.proofs.lemmas.List.{get_or_past}
-use Rattle.jam_codec.specs.Spelling.{little_endian, little_number, numbers, binary_number, binary_digits, bytes_for, packed}
+use Rattle.byte_numbers.specs.Numbers.{little_endian, little_number, numbers, AreBytes}
+use Rattle.jam_codec.specs.Spelling.{binary_number, binary_digits, bytes_for, packed}
 use Rattle.jam_codec.specs.Reading.{Reading, Reads, Refuses, bytes_at, past}
 use Rattle.jam_codec.specs.Format.{Format, numbers_of}
-use Rattle.jam_codec.specs.Laws.{AreBytes}
-use Rattle.jam_codec.proofs.Bits.{length-binary_digits, length-packed, binary_digits-of_bytes, binary_number-below, binary_number-fits}
-use Rattle.jam_codec.proofs.Numbers.{numbers-get, little_number-little_endian, items_at-numbers_front, items_at-missing}
+use Rattle.jam_codec.specs.BitLaws.{length-binary_digits, length-packed, binary_digits-of_bytes, binary_number-below, binary_number-fits}
+use Rattle.byte_numbers.specs.NumberLaws.{numbers-get, little_number-little_endian}
+use Rattle.jam_codec.specs.FormatLaws.{items_at-numbers_front, items_at-missing}
 use Rattle.pvm_isa.specs.declared.op.Op.{Op}
 use Rattle.pvm_isa.specs.declared.op.Op.TheVariants.{Trap}
 use Rattle.pvm_isa.specs.Opcodes.{op_numbered}

@@ -8,7 +8,7 @@ use Rattle.std.proofs.lemmas.List.{get_or-set_same, get_or-set_other, get_or_app
 use Rattle.std.proofs.lemmas.Nat.{or_lt}
 use Rattle.std.proofs.lemmas.Nat.Bits.{bit_at_or, bit_at-pow_same, bit_at-pow_other, bit_at-lt}
 use Rattle.jam_codec.specs.Spelling.{bytes_for}
-use Rattle.jam_codec.specs.Laws.{AreBytes}
+use Rattle.byte_numbers.specs.Numbers.{AreBytes}
 use Rattle.blob_decode.specs.Kept.{AreMarks}
 
 abbrev zeros : List ℕ

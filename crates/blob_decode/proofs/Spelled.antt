@@ -2,13 +2,13 @@
 use Rattle.std.proofs.Common.{◌≡◌, ℕ, ◌*◌, ◌<◌, ◌^◌, List, ◌++◌, length, None, Ok, refl, sym, ap, ◌∙◌, subst, arith, append-nil, append_assoc, []}
 use Rattle.std.proofs.lemmas.Bool.{le-leb}
 use Rattle.std.proofs.Math.ListN.{drop_of_length-le}
-use Rattle.jam_codec.specs.Spelling.{natural, little_endian, little_number, numbers, binary_digits, packed}
+use Rattle.jam_codec.specs.Spelling.{natural, binary_digits, packed}
+use Rattle.byte_numbers.specs.Numbers.{little_endian, little_number, numbers, AreBytes}
 use Rattle.jam_codec.specs.Reading.{Takes, past}
 use Rattle.jam_codec.specs.Format.{Spells, fixed_where, numbers_of, any, from, items_fit}
-use Rattle.jam_codec.specs.Laws.{AreBytes}
-use Rattle.jam_codec.proofs.Bits.{length-binary_digits, packed-found}
-use Rattle.jam_codec.proofs.Fields.{numbers_laws}
-use Rattle.jam_codec.proofs.Numbers.{items_at-numbers, length-numbers}
+use Rattle.jam_codec.specs.BitLaws.{length-binary_digits, packed-found}
+use Rattle.jam_codec.specs.FormatLaws.{numbers_laws, items_at-numbers}
+use Rattle.byte_numbers.specs.NumberLaws.{length-numbers}
 use Rattle.blob_decode.specs.Program.{program_blob}
 use Rattle.blob_decode.specs.Kept.{program_of, AreParts}
 

@@ -7,10 +7,10 @@ use Rattle.std.proofs.lemmas.Bool.{cases_lt}
 use Rattle.std.proofs.lemmas.List.{get_or-drop, get_or-take, length-take-le}
 use Rattle.std.proofs.lemmas.Nat.{shr-shr, or_lt, le_or_r, leading_top, field_of}
 use Rattle.std.proofs.lemmas.Nat.Bits.{bit_at-trailing_zeros, bit_at_lowest, bit_at_or, bit_at-pow_same, bit_at-pow_other}
-use Rattle.jam_codec.specs.Spelling.{little_number, binary_digits}
-use Rattle.jam_codec.specs.Laws.{AreBytes}
-use Rattle.jam_codec.proofs.Numbers.{AreBytes-take, AreBytes-drop}
-use Rattle.jam_codec.proofs.Bits.{binary_digits-of_bytes}
+use Rattle.byte_numbers.specs.Numbers.{little_number, AreBytes}
+use Rattle.jam_codec.specs.Spelling.{binary_digits}
+use Rattle.byte_numbers.specs.NumberLaws.{AreBytes-take, AreBytes-drop}
+use Rattle.jam_codec.specs.BitLaws.{binary_digits-of_bytes}
 use Rattle.blob_decode.specs.Program.{mask_bit, skip}
 use Rattle.blob_decode.specs.Kept.{program_of, AreParts, AreMarks, FirstSet, LastSet}
 use Rattle.blob_decode.proofs.Starts.{gap-is}

@@ -3,8 +3,7 @@ use Rattle.std.proofs.Common.{◌≡◌, ℕ, List, Bool, length, None, refl}
 use Rattle.std.specs.Prelude.{nat_le}
 use Rattle.jam_codec.specs.Format.{fixed_where, any}
 use Rattle.jam_codec.specs.Laws.{IsFormat}
-use Rattle.jam_codec.proofs.Formats.{both_laws, by_laws, length-items}
-use Rattle.jam_codec.proofs.Fields.{natural_laws, fixed_laws, bytes_laws, bits_laws, numbers_laws}
+use Rattle.jam_codec.specs.FormatLaws.{both_laws, by_laws, length-items, natural_laws, fixed_laws, bytes_laws, bits_laws, numbers_laws}
 use Rattle.blob_decode.specs.Program.{fields, program_blob}
 
 abbrev Fields : Type 0

@@ -1,7 +1,7 @@
 -- What is kept of a program blob, and the program that it stands for.
 use Rattle.std.specs.Prelude.{◌≡◌, ℕ, ◌+◌, ◌*◌, ◌/◌, ◌%◌, ◌^◌, ◌<◌, ◌≤◌, true, false, List, length, get_or}
-use Rattle.jam_codec.specs.Spelling.{little_number, numbers, binary_digits, bytes_for}
-use Rattle.jam_codec.specs.Laws.{AreBytes}
+use Rattle.byte_numbers.specs.Numbers.{little_number, numbers, AreBytes}
+use Rattle.jam_codec.specs.Spelling.{binary_digits, bytes_for}
 use Rattle.blob_decode.specs.Program.{Program, mask_bit}
 
 -- how many jumps and their width, and the bytes that spell the jumps, the code and the mask

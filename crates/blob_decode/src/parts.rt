@@ -1,9 +1,9 @@
 // The fields of a blob, in its bytes.
 ghost use Rattle.std.specs.Prelude.{◌≡◌, ◌*◌, ◌≤◌, ◌++◌, IfOk, OnOk, MatchResult, Ok, Err, Some, length};
-ghost use Rattle.jam_codec.specs.Spelling.{little_number, numbers, binary_digits};
+ghost use Rattle.byte_numbers.specs.Numbers.{little_number, numbers, AreBytes};
+ghost use Rattle.jam_codec.specs.Spelling.{binary_digits};
 ghost use Rattle.jam_codec.specs.Reading.{Reads};
 ghost use Rattle.jam_codec.specs.Format.{numbers_of, whole};
-ghost use Rattle.jam_codec.specs.Laws.{AreBytes};
 ghost use Rattle.blob_decode.specs.Program.{program_blob};
 ghost use Rattle.blob_decode.specs.Kept.{program_of, AreParts};
 ghost use Rattle.blob_decode.specs.Parts.{lists};

@@ -1,6 +1,7 @@
 // A program in memory.
 ghost use Rattle.std.specs.Prelude.{◌≡◌, ◌<◌, ◌≤◌, ◌+◌, ◌-◌, ◌/◌, ◌%◌, ◌^◌, ◌==◌, ℕ, true, false, None, if◌then◌else◌, IfSome, IfNone, MatchOption, IfOk, IfErr, IsErrOf, length, take, drop, slice_get};
-ghost use Rattle.jam_codec.specs.Spelling.{little_number, bytes_for};
+ghost use Rattle.byte_numbers.specs.Numbers.{little_number};
+ghost use Rattle.jam_codec.specs.Spelling.{bytes_for};
 ghost use Rattle.jam_codec.specs.Format.{Spells};
 ghost use Rattle.blob_decode.specs.declared.program.ProgramRefusal.TheVariants.{NoMemory, NotProgram};
 ghost use Rattle.pvm_isa.specs.declared.op.Op.TheVariants.{Trap};

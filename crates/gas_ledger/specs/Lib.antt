@@ -1,2 +1,2 @@
 pub mod Schedule
-pub mod ScheduleLaws
+pub mod CostLaws

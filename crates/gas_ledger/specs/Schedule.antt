@@ -31,5 +31,5 @@ form_cost s form = get_or s.forms (form - 1) 0
 abbrev pub call_cost : Schedule → ℕ → ℕ
 call_cost s number = get_or s.calls (if nat_lt number 27 then number else 27) 0
 
-abbrev pub schedule_code : Coded Schedule
-schedule_code = code_by (List ℕ × List ℕ) (coded× (coded_list coded_ℕ) (coded_list coded_ℕ)) (λ s. (s.forms, s.calls)) (λ p. record { forms = p.0; calls = p.1 }) (λ _. refl)
+abbrev pub coded_schedule : Coded Schedule
+coded_schedule = code_by (List ℕ × List ℕ) (coded× (coded_list coded_ℕ) (coded_list coded_ℕ)) (λ s. (s.forms, s.calls)) (λ p. record { forms = p.0; calls = p.1 }) (λ _. refl)

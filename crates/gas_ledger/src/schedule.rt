@@ -14,11 +14,11 @@ pub struct Schedule {
 }
 
 impl Model for Schedule {
-    ghost use Rattle.gas_ledger.specs.Schedule.{Schedule, IsSchedule, schedule_code};
+    ghost use Rattle.gas_ledger.specs.Schedule.{Schedule, IsSchedule, coded_schedule};
 
     ghost Value = { Schedule };
 
-    ghost coded = { schedule_code };
+    ghost coded = { coded_schedule };
 
     ghost view = { λ s. record { forms = s.forms; calls = s.calls } };
 

@@ -5,7 +5,8 @@ use Rattle.std.specs.List.{sum_by}
 use Rattle.std.specs.FinMap as fin
 use Rattle.std.proofs.lemmas.List.Sums.{sum_by-cons}
 use Rattle.std.specs.Cmp.Lexicographic.{nat_list_cmp_total}
-use Rattle.jam_accounts.proofs.Maps.{no_entries, bytes_same, lookups_total, lookups_same}
+use Rattle.jam_accounts.proofs.Maps.{no_entries, bytes_same, lookups_same}
+use Rattle.jam_codec.specs.FormatLaws.{hash_and_number_total}
 use Rattle.jam_accounts.proofs.Sums.{sum_by-insert, sum_by-remove-le}
 use Rattle.jam_accounts.specs.Accounts.{Account, Storage, Lookups}
 use Rattle.jam_accounts.specs.Footprint.{items_of, octets_of, value_octets, history_octets, storage_octets, lookups_octets, fitting, weight_at, IsBounded}
@@ -70,7 +71,7 @@ storage_less m n key rest is h =
 
 pub lookups_less : (m n : Lookups) (key : List ℕ × ℕ) (rest : ℕ) → n ≡ fin.remove m key → rest + lookups_octets m < 2 ^ 100 → rest + lookups_octets n < 2 ^ 100
 lookups_less m n key rest is h =
-    let le : lookups_octets n ≤ lookups_octets m = subst (λ (x : Lookups). lookups_octets x ≤ lookups_octets m) (sym is) (sum_by-remove-le lookups_total lookups_same history_octets m key) in
+    let le : lookups_octets n ≤ lookups_octets m = subst (λ (x : Lookups). lookups_octets x ≤ lookups_octets m) (sym is) (sum_by-remove-le hash_and_number_total lookups_same history_octets m key) in
     omega (arith, le, h)
 
 fitted_as : (b : Bool) (n x : ℕ) → (if b then Some n else None) ≡ Some x → x ≡ n
@@ -87,6 +88,6 @@ weighs_there (Some other) history n e = refl
 -- a history in place of one that is there takes up as much
 pub lookups_replaced : (m n : Lookups) (key : List ℕ × ℕ) (old new : List ℕ) → fin.get m key ≡ Some old → n ≡ fin.insert m key new → lookups_octets n ≡ lookups_octets m
 lookups_replaced m n key old new there is =
-    let sums : lookups_octets (fin.insert m key new) + weight_at history_octets m key ≡ lookups_octets m + (81 + key.1) = sum_by-insert lookups_total lookups_same history_octets m key new in
+    let sums : lookups_octets (fin.insert m key new) + weight_at history_octets m key ≡ lookups_octets m + (81 + key.1) = sum_by-insert hash_and_number_total lookups_same history_octets m key new in
     let weight : weight_at history_octets m key ≡ 81 + key.1 = weighs_there (fin.get m key) old (81 + key.1) there in
     ap lookups_octets is ∙ omega (arith, sums, weight)

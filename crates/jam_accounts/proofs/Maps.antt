@@ -1,12 +1,10 @@
 -- Maps of the program, seen as finite maps: look-ups, inserts and removals.
-use Rattle.std.proofs.Common.{◌≡◌, ℕ, suc, Bool, true, false, cond, List, [], ◌∷◌, Some, None, Option, option_map, refl, sym, ap, subst, ◌∙◌, Ordering, length, arith, is_some, unwrap_or, IsSome, Result, Ok, Err, OnErr}
+use Rattle.std.proofs.Common.{◌≡◌, suc, Bool, true, false, cond, List, [], ◌∷◌, Some, None, Option, option_map, refl, sym, ap, subst, ◌∙◌, Ordering, length, arith, is_some, unwrap_or, IsSome, Result, Ok, Err, OnErr}
 use Rattle.std.specs.Prelude.{T}
 use Rattle.std.specs.declared.cmp.Ordering.TheVariants.{Less, Equal, Greater}
-use Rattle.std.specs.Ordering.{match_ordering, eq_by_cmp, is_eq}
+use Rattle.std.specs.Ordering.{match_ordering, eq_by_cmp, is_eq, nat_cmp}
 use Rattle.std.specs.Cmp.{IsTotalOrder}
-use Rattle.std.specs.Cmp.{nat_cmp_total}
-use Rattle.std.specs.Cmp.Lexicographic.{slice_cmp, nat_list_cmp_total}
-use Rattle.std.specs.Ordering.{nat_cmp}
+use Rattle.std.specs.Cmp.Lexicographic.{slice_cmp}
 use Rattle.std.specs.List.{AllByRecursion, AllZip}
 use Rattle.std.specs.List.Sorted.{IsStrictlySortedBy}
 use Rattle.std.specs.BTreeMap.{BTreeMap, insert_entry, is_at, IsClone, UpdatesBy}
@@ -17,9 +15,9 @@ use Rattle.jam_accounts.specs.Accounts.{OfEachEntry}
 use Rattle.std.specs.FinMap.Entries.{put, by_order, find-put}
 use Rattle.std.proofs.lemmas.Map.Keys.{sorted_head, sorted_tail}
 use Rattle.std.proofs.lemmas.Map.Lookups.{exact_pairs, exact_bytes, exact_unsigned}
-use Rattle.std.proofs.lemmas.Cmp.{on_total, then_total}
 use Rattle.jam_codec.specs.Lists.{hash_and_number_cmp}
-use Rattle.jam_accounts.specs.Seen.{plain, seen}
+use Rattle.jam_accounts.specs.Seen.{seen_entries, seen_map}
+use Rattle.jam_accounts.specs.PutBackLaws.{equal}
 
 -- what is so whatever was answered
 pub on_err : {A E P : Type 0} (r : Result A E) → P → OnErr r P
@@ -49,11 +47,6 @@ module _ {L X : Type 0} (R : L → L → Ordering) where
       fin.entries-insert o (fin.from_entries es) e.0 e.1 ∙ ap (put R e.0 e.1) (entries-from_entries o es (sorted_tail R e.0 (keys_of es) s))
       ∙ put_below e.0 e.1 es (sorted_head R e.0 (keys_of es) s)
 
-pub equal : (r : Ordering) → is_eq r ≡ true → r ≡ Equal
-equal Less h = absurd (subst T (sym h) tt)
-equal Equal h = refl
-equal Greater h = absurd (subst T (sym h) tt)
-
 tied : {L : Type 0} {R : L → L → Ordering} → IsTotalOrder R → (k x y : L) → is_eq (R k x) ≡ true → is_eq (R k y) ≡ is_eq (R x y)
 tied {R = R} o k x y h = ap is_eq (o.congr k x y (equal (R k x) h))
 
@@ -62,36 +55,36 @@ chosen value true v r s e = refl
 chosen value false v r s e = e
 
 module _ {K V L X : Type 0} (R : L → L → Ordering) (key : K → L) (value : V → X) where
-  lookup_plain : (q : L) (es : List (K × V)) → lookup (is_at (R q)) (plain key value es) ≡ option_map value (lookup (is_at (λ k. R q (key k))) es)
+  lookup_plain : (q : L) (es : List (K × V)) → lookup (is_at (R q)) (seen_entries key value es) ≡ option_map value (lookup (is_at (λ k. R q (key k))) es)
   lookup_plain q [] = refl
   lookup_plain q (e ∷ es) = chosen value (is_at (R q) (key e.0)) e.1 _ _ (lookup_plain q es)
 
-  placed : (o : Ordering) (k : K) (v : V) (e : K × V) (es rest : List (K × V)) (more : List (L × X)) → plain key value rest ≡ more
-      → plain key value (match_ordering o ((k, v) ∷ e ∷ es) ((e.0, v) ∷ es) (e ∷ rest))
-      ≡ by_order o ((key k, value v) ∷ (key e.0, value e.1) ∷ plain key value es) ((key e.0, value v) ∷ plain key value es) ((key e.0, value e.1) ∷ more)
+  placed : (o : Ordering) (k : K) (v : V) (e : K × V) (es rest : List (K × V)) (more : List (L × X)) → seen_entries key value rest ≡ more
+      → seen_entries key value (match_ordering o ((k, v) ∷ e ∷ es) ((e.0, v) ∷ es) (e ∷ rest))
+      ≡ by_order o ((key k, value v) ∷ (key e.0, value e.1) ∷ seen_entries key value es) ((key e.0, value v) ∷ seen_entries key value es) ((key e.0, value e.1) ∷ more)
   placed Less k v e es rest more p = refl
   placed Equal k v e es rest more p = refl
   placed Greater k v e es rest more p = ap (λ (xs : List (L × X)). (key e.0, value e.1) ∷ xs) p
 
-  insert_plain : (es : List (K × V)) (k : K) (v : V) → plain key value (insert_entry (λ x y. R (key x) (key y)) es k v) ≡ put R (key k) (value v) (plain key value es)
+  insert_plain : (es : List (K × V)) (k : K) (v : V) → seen_entries key value (insert_entry (λ x y. R (key x) (key y)) es k v) ≡ put R (key k) (value v) (seen_entries key value es)
   insert_plain [] k v = refl
   insert_plain (e ∷ es) k v = placed (R (key k) (key e.0)) k v e es _ _ (insert_plain es k v)
 
-  below_plain : (k : K) (es : List (K × V)) → AllByRecursion (λ y. R (key k) (key y) ≡ Less) (keys_of es) → AllByRecursion (λ y. R (key k) y ≡ Less) (keys_of (plain key value es))
+  below_plain : (k : K) (es : List (K × V)) → AllByRecursion (λ y. R (key k) (key y) ≡ Less) (keys_of es) → AllByRecursion (λ y. R (key k) y ≡ Less) (keys_of (seen_entries key value es))
   below_plain k [] h = tt
   below_plain k (e ∷ es) h = (h.0, below_plain k es h.1)
 
-  sorted_plain : (es : List (K × V)) → IsStrictlySortedBy (λ x y. R (key x) (key y)) (keys_of es) → IsStrictlySortedBy R (keys_of (plain key value es))
+  sorted_plain : (es : List (K × V)) → IsStrictlySortedBy (λ x y. R (key x) (key y)) (keys_of es) → IsStrictlySortedBy R (keys_of (seen_entries key value es))
   unfolding IsStrictlySortedBy
   sorted_plain [] h = tt
   sorted_plain (e ∷ es) h = (below_plain e.0 es h.0, sorted_plain es h.1)
 
-  length_plain : (es : List (K × V)) → length (plain key value es) ≡ length es
+  length_plain : (es : List (K × V)) → length (seen_entries key value es) ≡ length es
   length_plain [] = refl
   length_plain (e ∷ es) = ap suc (length_plain es)
 
   plain_clone : (C : K → K → Type 0) (D : V → V → Type 0) → ((x y : K) → C x y → key y ≡ key x) → ((v w : V) → D v w → value w ≡ value v)
-      → (es fs : List (K × V)) → AllZip (λ p q. C p.0 q.0 × D p.1 q.1) es fs → plain key value fs ≡ plain key value es
+      → (es fs : List (K × V)) → AllZip (λ p q. C p.0 q.0 × D p.1 q.1) es fs → seen_entries key value fs ≡ seen_entries key value es
   plain_clone C D g h [] [] a = refl
   plain_clone C D g h [] (y ∷ ys) a = absurd a
   plain_clone C D g h (x ∷ xs) [] a = absurd a
@@ -99,35 +92,35 @@ module _ {K V L X : Type 0} (R : L → L → Ordering) (key : K → L) (value : 
 
   -- a clone is seen as what it is a clone of
   pub cloned : {C : K → K → Type 0} {D : V → V → Type 0} (m n : BTreeMap K V) → IsClone C D m n
-      → ((x y : K) → C x y → key y ≡ key x) → ((v w : V) → D v w → value w ≡ value v) → seen R key value n ≡ seen R key value m
+      → ((x y : K) → C x y → key y ≡ key x) → ((v w : V) → D v w → value w ≡ value v) → seen_map R key value n ≡ seen_map R key value m
   cloned {C = C} {D = D} m n is g h = ap (fin.from_entries {R = R}) (plain_clone C D g h m.entries n.entries is)
 
   module _ (o : IsTotalOrder R) where
     -- what is seen at a key
-    pub got : (m : BTreeMap K V) (q : L) → fin.get (seen R key value m) q ≡ option_map value (lookup (is_at (λ k. R q (key k))) m.entries)
-    got m q = fin.get-from_entries o (plain key value m.entries) q ∙ find_is R q (plain key value m.entries) ∙ lookup_plain q m.entries
+    pub got : (m : BTreeMap K V) (q : L) → fin.get (seen_map R key value m) q ≡ option_map value (lookup (is_at (λ k. R q (key k))) m.entries)
+    got m q = fin.get-from_entries o (seen_entries key value m.entries) q ∙ find_is R q (seen_entries key value m.entries) ∙ lookup_plain q m.entries
 
     -- where the program's map has nothing, nothing is seen
-    pub nothing_seen : (m : BTreeMap K V) (k : K) → lookup (is_at (λ x. R (key k) (key x))) m.entries ≡ None → fin.get (seen R key value m) (key k) ≡ None
+    pub nothing_seen : (m : BTreeMap K V) (k : K) → lookup (is_at (λ x. R (key k) (key x))) m.entries ≡ None → fin.get (seen_map R key value m) (key k) ≡ None
     nothing_seen m k none = got m (key k) ∙ ap (option_map value) none
 
-    pub something_seen : (m : BTreeMap K V) (k : K) (seen_as : fin.FinMap R X) → seen R key value m ≡ seen_as → IsSome (fin.get seen_as (key k)) → lookup (is_at (λ x. R (key k) (key x))) m.entries ≡ None → ⊥
+    pub something_seen : (m : BTreeMap K V) (k : K) (seen_as : fin.FinMap R X) → seen_map R key value m ≡ seen_as → IsSome (fin.get seen_as (key k)) → lookup (is_at (λ x. R (key k) (key x))) m.entries ≡ None → ⊥
     something_seen m k seen_as is some none = cc (subst IsSome (sym (ap (λ s. fin.get s (key k)) is) ∙ nothing_seen m k none) some)
 
-    pub entries_seen : (m : BTreeMap K V) → IsStrictlySortedBy (λ x y. R (key x) (key y)) (keys_of m.entries) → fin.entries (seen R key value m) ≡ plain key value m.entries
-    entries_seen m s = entries-from_entries R o (plain key value m.entries) (sorted_plain m.entries s)
+    pub entries_seen : (m : BTreeMap K V) → IsStrictlySortedBy (λ x y. R (key x) (key y)) (keys_of m.entries) → fin.entries (seen_map R key value m) ≡ seen_entries key value m.entries
+    entries_seen m s = entries-from_entries R o (seen_entries key value m.entries) (sorted_plain m.entries s)
 
-    pub length_seen : (m : BTreeMap K V) → IsStrictlySortedBy (λ x y. R (key x) (key y)) (keys_of m.entries) → length m.entries ≡ fin.len (seen R key value m)
-    length_seen m s = sym (fin.len-entries (seen R key value m) ∙ ap length (entries_seen m s) ∙ length_plain m.entries)
+    pub length_seen : (m : BTreeMap K V) → IsStrictlySortedBy (λ x y. R (key x) (key y)) (keys_of m.entries) → length m.entries ≡ fin.len (seen_map R key value m)
+    length_seen m s = sym (fin.len-entries (seen_map R key value m) ∙ ap length (entries_seen m s) ∙ length_plain m.entries)
 
     module _ (same : IsAntisymmetric R) where
-      pub inserted : (m n : BTreeMap K V) (k : K) (v : V) → n.entries ≡ insert_entry (λ x y. R (key x) (key y)) m.entries k v → seen R key value n ≡ fin.insert (seen R key value m) (key k) (value v)
-      inserted m n k v h = fin.same_map o same (seen R key value n) (fin.insert (seen R key value m) (key k) (value v)) (λ q.
-          fin.get-from_entries o (plain key value n.entries) q
-          ∙ ap (fin.find R q) (ap (plain key value) h ∙ insert_plain m.entries k v)
-          ∙ find-put R o q (key k) (value v) (plain key value m.entries)
-          ∙ ap (cond (eq_by_cmp R q (key k)) (Some (value v))) (sym (fin.get-from_entries o (plain key value m.entries) q))
-          ∙ sym (fin.get-insert o (seen R key value m) (key k) (value v) q))
+      pub inserted : (m n : BTreeMap K V) (k : K) (v : V) → n.entries ≡ insert_entry (λ x y. R (key x) (key y)) m.entries k v → seen_map R key value n ≡ fin.insert (seen_map R key value m) (key k) (value v)
+      inserted m n k v h = fin.same_map o same (seen_map R key value n) (fin.insert (seen_map R key value m) (key k) (value v)) (λ q.
+          fin.get-from_entries o (seen_entries key value n.entries) q
+          ∙ ap (fin.find R q) (ap (seen_entries key value) h ∙ insert_plain m.entries k v)
+          ∙ find-put R o q (key k) (value v) (seen_entries key value m.entries)
+          ∙ ap (cond (eq_by_cmp R q (key k)) (Some (value v))) (sym (fin.get-from_entries o (seen_entries key value m.entries) q))
+          ∙ sym (fin.get-insert o (seen_map R key value m) (key k) (value v) q))
 
       -- a query for another key than the one that was taken out
       apart : (k q : L) → is_eq (R q k) ≡ false → (x : K) → is_eq (R k (key x)) ≡ true → is_eq (R q (key x)) ≡ false
@@ -140,21 +133,17 @@ module _ {K V L X : Type 0} (R : L → L → Ordering) (key : K → L) (value : 
           ap (λ (p : L). option_map value (lookup (is_at (λ x. R p (key x))) n.entries)) (same q k (equal (R q k) here)) ∙ ap (option_map value) u.1
       found_after m n k q u false other = ap (option_map value) (u.3 (is_at (λ x. R q (key x))) (λ x y at. tied o q (key x) (key y) at) (apart k q other))
 
-      pub removed : (m n : BTreeMap K V) (k : L) → UpdatesBy (λ x y. R (key x) (key y)) (λ x. R k (key x)) m n None → seen R key value n ≡ fin.remove (seen R key value m) k
-      removed m n k u = fin.same_map o same (seen R key value n) (fin.remove (seen R key value m) k) (λ q.
+      pub removed : (m n : BTreeMap K V) (k : L) → UpdatesBy (λ x y. R (key x) (key y)) (λ x. R k (key x)) m n None → seen_map R key value n ≡ fin.remove (seen_map R key value m) k
+      removed m n k u = fin.same_map o same (seen_map R key value n) (fin.remove (seen_map R key value m) k) (λ q.
           got n q ∙ found_after m n k q u (eq_by_cmp R q k) refl
           ∙ ap (cond (eq_by_cmp R q k) None) (sym (got m q))
-          ∙ sym (fin.get-remove o (seen R key value m) k q))
+          ∙ sym (fin.get-remove o (seen_map R key value m) k q))
 
 same_Some : {A : Type 0} (x y : A) → Some x ≡ Some y → x ≡ y
 same_Some x y e = ap (λ o. unwrap_or o x) e
 
 not_Some : {A : Type 0} (x : A) → None ≡ Some x → ⊥
 not_Some x e = subst T (sym (ap is_some e)) tt
-
-none_at : {X : Type 0} (P : X → Type 0) (found : Option X) → ((w : X) → found ≡ Some w → P w) → ((w : X) → P w → ⊥) → found ≡ None
-none_at P None h never = refl
-none_at P (Some w) h never = absurd (never w (h w refl))
 
 pub of_none : {K X : Type 0} (R : K → K → Ordering) (P : K → X → Type 0) → OfEachEntry P (fin.empty {X = X} {R = R})
 of_none R P q w e = absurd (not_Some w (sym (fin.get-empty R q) ∙ e))
@@ -176,40 +165,8 @@ module _ {K X : Type 0} {R : K → K → Ordering} (P : K → X → Type 0) wher
     pub of_removed : (m : fin.FinMap R X) (k : K) → OfEachEntry P m → OfEachEntry P (fin.remove m k)
     of_removed m k h q w e = of_other q w m h (eq_by_cmp R q k) (sym (fin.get-remove o m k q) ∙ e)
 
-  -- there is nothing where it would be false
-  pub nothing_at : (m : fin.FinMap R X) (q : K) → OfEachEntry P m → ((w : X) → P q w → ⊥) → fin.get m q ≡ None
-  nothing_at m q h never = none_at (P q) (fin.get m q) (h q) never
-
-either_put : {A : Type 0} (b : Bool) (new old other : Option A) → cond b new (cond b old other) ≡ cond b new other
-either_put true new old other = refl
-either_put false new old other = refl
-
-module _ {K X : Type 0} {R : K → K → Ordering} (o : IsTotalOrder R) (same : IsAntisymmetric R) (m : fin.FinMap R X) (k : K) where
-  -- what is taken out and put back is as if it were put in its place
-  pub inserted_back : (v : X) → fin.insert (fin.remove m k) k v ≡ fin.insert m k v
-  inserted_back v = fin.same_map o same (fin.insert (fin.remove m k) k v) (fin.insert m k v) (λ q.
-      fin.get-insert o (fin.remove m k) k v q ∙ ap (cond (eq_by_cmp R q k) (Some v)) (fin.get-remove o m k q)
-      ∙ either_put (eq_by_cmp R q k) (Some v) None (fin.get m q) ∙ sym (fin.get-insert o m k v q))
-
-  -- of two that are put in one place the later stays
-  pub inserted_twice : (u v : X) → fin.insert (fin.insert m k u) k v ≡ fin.insert m k v
-  inserted_twice u v = fin.same_map o same (fin.insert (fin.insert m k u) k v) (fin.insert m k v) (λ q.
-      fin.get-insert o (fin.insert m k u) k v q ∙ ap (cond (eq_by_cmp R q k) (Some v)) (fin.get-insert o m k u q)
-      ∙ either_put (eq_by_cmp R q k) (Some v) (Some u) (fin.get m q) ∙ sym (fin.get-insert o m k v q))
-
-  same_get : (b : Bool) (q : K) (found : Option X) → fin.get m k ≡ found → eq_by_cmp R q k ≡ b → cond b found (fin.get m q) ≡ fin.get m q
-  same_get true q found there here = sym there ∙ ap (fin.get m) (sym (same q k (equal (R q k) here)))
-  same_get false q found there other = refl
-
-  -- what stands in its place may be put there again
-  pub inserted_same : (v : X) → fin.get m k ≡ Some v → fin.insert m k v ≡ m
-  inserted_same v there = fin.same_map o same (fin.insert m k v) m (λ q. fin.get-insert o m k v q ∙ same_get (eq_by_cmp R q k) q (Some v) there refl)
-
 pub bytes_same : IsAntisymmetric (slice_cmp nat_cmp)
 bytes_same = slice_cmp-IsAntisymmetric nat_cmp-IsAntisymmetric
-
-pub lookups_total : IsTotalOrder hash_and_number_cmp
-lookups_total = then_total (on_total (λ (k : List ℕ × ℕ). k.0) nat_list_cmp_total) (on_total (λ (k : List ℕ × ℕ). k.1) nat_cmp_total)
 
 pub lookups_same : IsAntisymmetric hash_and_number_cmp
 lookups_same a b h = exact_pairs (slice_cmp nat_cmp) nat_cmp exact_bytes exact_unsigned a b h

@@ -16,7 +16,8 @@ use Rattle.std.proofs.lemmas.Map.{lookup-none}
 use Rattle.std.proofs.lemmas.Map.Keys.{sorted_tail}
 use Rattle.std.proofs.lemmas.Map.Entries.{none_below_head}
 use Rattle.jam_accounts.specs.Footprint.{weight_at}
-use Rattle.jam_accounts.proofs.Maps.{find_is, equal}
+use Rattle.jam_accounts.proofs.Maps.{find_is}
+use Rattle.jam_accounts.specs.PutBackLaws.{equal}
 
 left_T : (a b : Bool) → T (a && b) → T a
 left_T true b p = tt
@@ -44,8 +45,8 @@ module _ {K X : Type 0} (R : K → K → Ordering) where
 abbrev weighed : {K X : Type 0} → (K × X → ℕ) → K → Option X → ℕ
 weighed f k found = unwrap_or (option_map (λ v. f (k, v)) found) 0
 
-later : (a b c d e p q : ℕ) → p ≡ a + c → q ≡ a + d → c + b ≡ d + e → p + b ≡ q + e
-later a b c d e p q r s h = omega (arith, r, s, h)
+sum_later : (a b c d e p q : ℕ) → p ≡ a + c → q ≡ a + d → c + b ≡ d + e → p + b ≡ q + e
+sum_later a b c d e p q r s h = omega (arith, r, s, h)
 
 replaced : (new old rest p q : ℕ) → p ≡ new + rest → q ≡ old + rest → p + old ≡ q + new
 replaced new old rest p q r s = omega (arith, r, s)
@@ -72,7 +73,7 @@ module _ {K X : Type 0} {R : K → K → Ordering} (o : IsTotalOrder R) (same : 
       ∙ replaced (f (e.0, v)) (f e) (sum_by f es) (sum_by f ((e.0, v) ∷ es)) (sum_by f (e ∷ es)) (sum_by-cons f (e.0, v) es) (sum_by-cons f e es)
       ∙ ap (λ (q : K). sum_by f (e ∷ es) + f (q, v)) (sym here)
   put_first k v e es s h Greater t =
-      later (f e) (weighed f k (lookup (is_at (R k)) es)) (sum_by f (put R k v es)) (sum_by f es) (f (k, v)) (sum_by f (e ∷ put R k v es)) (sum_by f (e ∷ es))
+      sum_later (f e) (weighed f k (lookup (is_at (R k)) es)) (sum_by f (put R k v es)) (sum_by f es) (f (k, v)) (sum_by f (e ∷ put R k v es)) (sum_by f (e ∷ es))
       (sum_by-cons f e (put R k v es)) (sum_by-cons f e es) h
 
   sum_by-put : (k : K) (v : X) (es : List (K × X)) → IsStrictlySortedBy R (keys_of es) → sum_by f (put R k v es) + weighed f k (lookup (is_at (R k)) es) ≡ sum_by f es + f (k, v)

@@ -4,3 +4,4 @@ pub mod Footprint
 pub mod Coded
 pub mod Seen
 pub mod Receipt
+pub mod PutBackLaws

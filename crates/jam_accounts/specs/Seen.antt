@@ -5,8 +5,8 @@ use Rattle.std.specs.BTreeMap.{BTreeMap}
 use Rattle.std.specs.FinMap as fin
 
 -- entries, with what is seen of each key and of each value
-abbrev pub plain : {K V L X : Type 0} → (K → L) → (V → X) → List (K × V) → List (L × X)
-plain key value entries = map (λ e. (key e.0, value e.1)) entries
+abbrev pub seen_entries : {K V L X : Type 0} → (K → L) → (V → X) → List (K × V) → List (L × X)
+seen_entries key value entries = map (λ e. (key e.0, value e.1)) entries
 
-abbrev pub seen : {K V L X : Type 0} (R : L → L → Ordering) → (K → L) → (V → X) → BTreeMap K V → fin.FinMap R X
-seen R key value tree = fin.from_entries (plain key value tree.entries)
+abbrev pub seen_map : {K V L X : Type 0} (R : L → L → Ordering) → (K → L) → (V → X) → BTreeMap K V → fin.FinMap R X
+seen_map R key value tree = fin.from_entries (seen_entries key value tree.entries)

@@ -20,13 +20,13 @@ impl Model for Accounts {
     ghost use Rattle.std.specs.Ordering.{nat_cmp};
     ghost use Rattle.jam_accounts.specs.Accounts.{Accounts};
     ghost use Rattle.jam_accounts.specs.Coded.{coded_accounts};
-    ghost use Rattle.jam_accounts.specs.Seen.{seen};
+    ghost use Rattle.jam_accounts.specs.Seen.{seen_map};
 
     ghost Value = { Accounts };
 
     ghost coded = { coded_accounts };
 
-    ghost view = { λ a. seen nat_cmp (λ k. k) (λ v. v) a.map };
+    ghost view = { λ a. seen_map nat_cmp (λ k. k) (λ v. v) a.map };
 }
 
 impl Accounts {
@@ -101,13 +101,13 @@ impl<'a> Model for AccountsEntries<'a> {
     ghost use Rattle.std.specs.Coded.{coded_list, coded×, coded_ℕ};
     ghost use Rattle.jam_accounts.specs.Accounts.{Account};
     ghost use Rattle.jam_accounts.specs.Coded.{coded_account};
-    ghost use Rattle.jam_accounts.specs.Seen.{plain};
+    ghost use Rattle.jam_accounts.specs.Seen.{seen_entries};
 
     ghost Value = { List (ℕ × Account) };
 
     ghost coded = { coded_list (coded× coded_ℕ coded_account) };
 
-    ghost view = { λ s. plain (λ k. k) (λ v. v) s.rest };
+    ghost view = { λ s. seen_entries (λ k. k) (λ v. v) s.rest };
 }
 
 impl Accounts {

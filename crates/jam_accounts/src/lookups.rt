@@ -22,15 +22,15 @@ impl Model for Lookups {
     ghost use Rattle.jam_codec.specs.Lists.{hash_and_number_cmp};
     ghost use Rattle.jam_accounts.specs.Accounts.{Lookups, HaveShortLengths};
     ghost use Rattle.jam_accounts.specs.Coded.{coded_lookups};
-    ghost use Rattle.jam_accounts.specs.Seen.{seen};
+    ghost use Rattle.jam_accounts.specs.Seen.{seen_map};
 
     ghost Value = { Lookups };
 
     ghost coded = { coded_lookups };
 
-    ghost view = { λ l. seen hash_and_number_cmp (λ k. k) (λ v. v) l.map };
+    ghost view = { λ l. seen_map hash_and_number_cmp (λ k. k) (λ v. v) l.map };
 
-    ghost invariant = { λ l. HaveShortLengths (seen hash_and_number_cmp (λ k. k) (λ v. v) l.map) };
+    ghost invariant = { λ l. HaveShortLengths (seen_map hash_and_number_cmp (λ k. k) (λ v. v) l.map) };
 }
 
 impl Lookups {
@@ -113,11 +113,11 @@ pub struct LookupsEntries<'a> {
 
 impl<'a> Model for LookupsEntries<'a> {
     ghost use Rattle.std.specs.Prelude.{ℕ, List};
-    ghost use Rattle.jam_accounts.specs.Seen.{plain};
+    ghost use Rattle.jam_accounts.specs.Seen.{seen_entries};
 
     ghost Value = { List ((List ℕ × ℕ) × List ℕ) };
 
-    ghost view = { λ s. plain (λ k. k) (λ v. v) s.rest };
+    ghost view = { λ s. seen_entries (λ k. k) (λ v. v) s.rest };
 }
 
 impl Lookups {

@@ -20,15 +20,15 @@ pub struct Preimages {
 impl Model for Preimages {
     ghost use Rattle.jam_accounts.specs.Accounts.{Preimages, StandUnderDigests, bytes_cmp};
     ghost use Rattle.jam_accounts.specs.Coded.{coded_preimages};
-    ghost use Rattle.jam_accounts.specs.Seen.{seen};
+    ghost use Rattle.jam_accounts.specs.Seen.{seen_map};
 
     ghost Value = { Preimages };
 
     ghost coded = { coded_preimages };
 
-    ghost view = { λ p. seen bytes_cmp (λ k. k) (λ v. v.items) p.map };
+    ghost view = { λ p. seen_map bytes_cmp (λ k. k) (λ v. v.items) p.map };
 
-    ghost invariant = { λ p. StandUnderDigests (seen bytes_cmp (λ k. k) (λ v. v.items) p.map) };
+    ghost invariant = { λ p. StandUnderDigests (seen_map bytes_cmp (λ k. k) (λ v. v.items) p.map) };
 }
 
 impl Preimages {
@@ -106,11 +106,11 @@ pub struct PreimagesEntries<'a> {
 
 impl<'a> Model for PreimagesEntries<'a> {
     ghost use Rattle.std.specs.Prelude.{ℕ, List};
-    ghost use Rattle.jam_accounts.specs.Seen.{plain};
+    ghost use Rattle.jam_accounts.specs.Seen.{seen_entries};
 
     ghost Value = { List (List ℕ × List ℕ) };
 
-    ghost view = { λ s. plain (λ k. k) (λ v. v.items) s.rest };
+    ghost view = { λ s. seen_entries (λ k. k) (λ v. v.items) s.rest };
 }
 
 impl Preimages {

@@ -20,13 +20,13 @@ pub struct Storage {
 impl Model for Storage {
     ghost use Rattle.jam_accounts.specs.Accounts.{Storage, bytes_cmp};
     ghost use Rattle.jam_accounts.specs.Coded.{coded_storage};
-    ghost use Rattle.jam_accounts.specs.Seen.{seen};
+    ghost use Rattle.jam_accounts.specs.Seen.{seen_map};
 
     ghost Value = { Storage };
 
     ghost coded = { coded_storage };
 
-    ghost view = { λ s. seen bytes_cmp (λ k. k.items) (λ v. v.items) s.map };
+    ghost view = { λ s. seen_map bytes_cmp (λ k. k.items) (λ v. v.items) s.map };
 }
 
 impl Storage {
@@ -87,11 +87,11 @@ pub struct StorageEntries<'a> {
 
 impl<'a> Model for StorageEntries<'a> {
     ghost use Rattle.std.specs.Prelude.{ℕ, List};
-    ghost use Rattle.jam_accounts.specs.Seen.{plain};
+    ghost use Rattle.jam_accounts.specs.Seen.{seen_entries};
 
     ghost Value = { List (List ℕ × List ℕ) };
 
-    ghost view = { λ s. plain (λ k. k.items) (λ v. v.items) s.rest };
+    ghost view = { λ s. seen_entries (λ k. k.items) (λ v. v.items) s.rest };
 }
 
 impl Storage {

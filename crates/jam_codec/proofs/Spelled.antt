@@ -1,48 +1,20 @@
 -- Spellings as the bytes of a machine's numbers, and byte by byte.
-use Rattle.std.proofs.Common.{◌≡◌, ℕ, zero, suc, ◌+◌, ◌-◌, ◌*◌, ◌/◌, ◌%◌, ◌^◌, ◌<◌, ◌≤◌, Bool, true, false, List, [], ◌∷◌, ◌++◌, length, take, drop, refl, sym, ap, ◌∙◌, lit<, arith, inl, inr, add-one, length-drop, length-take, length-append, append_assoc, append-nil, if◌then◌else◌, nat_lt, ◌==◌, Result, Ok, Err, OnOk, take-append-drop}
+use Rattle.std.proofs.Common.{◌≡◌, ℕ, suc, ◌+◌, ◌*◌, ◌/◌, ◌%◌, ◌^◌, ◌<◌, ◌≤◌, Bool, true, false, List, [], ◌∷◌, ◌++◌, length, take, drop, refl, sym, ap, ◌∙◌, lit<, arith, inl, inr, add-one, length-drop, length-take, length-append, append_assoc, append-nil, if◌then◌else◌, ◌==◌, Result, Ok, Err, OnOk, take-append-drop}
 use Rattle.std.specs.Result.{is_ok}
-use Rattle.std.specs.Int.{byte_at, bytes_low_first}
-use Rattle.std.proofs.Math.Nat.{div-div-eq-div-mul, div-one, pow-suc, pow-succ', pow-le-pow_right}
-use Rattle.std.proofs.lemmas.Bool.{cases_lt, lt-ltb, eqb-true}
+use Rattle.std.specs.Int.{bytes_low_first}
+use Rattle.std.proofs.Math.Nat.{pow-succ', pow-le-pow_right}
+use Rattle.std.proofs.lemmas.Bool.{cases_lt, eqb-true}
 use Rattle.std.proofs.lemmas.Bool.Decides.{nat_tests}
 use Rattle.std.proofs.lemmas.List.{take_all, drop_all, length-take-le, take-append-le}
-use Rattle.jam_codec.specs.Spelling.{little_endian, natural, natural_with, tail_length, prefix_of, binary_number, bytes_for, packed}
-use Rattle.jam_codec.specs.Reading.{least_with}
-use Rattle.jam_codec.proofs.Naturals.{tail_length-is}
-use Rattle.jam_codec.proofs.Bits.{binary_number-below}
-
--- the bytes of a number, from one of them on
-byte_at-power : (j x : ℕ) → byte_at j x ≡ x / 256 ^ j % 256
-byte_at-power zero x = ap (λ (k : ℕ). k % 256) (sym (div-one x))
-byte_at-power (suc j) x = refl
-
-bytes-from : (k j x : ℕ) → bytes_low_first j k x ≡ little_endian k (x / 256 ^ j)
-unfolding little_endian
-bytes-from zero j x = refl
-bytes-from (suc k) j x =
-    let next : x / 256 ^ suc j ≡ x / 256 ^ j / 256 = ap (λ (p : ℕ). x / p) (pow-suc 256 j) ∙ sym (div-div-eq-div-mul x (256 ^ j) 256) in
-    rw (byte_at-power j x, bytes-from k (suc j) x, next) refl
-
-pub bytes-little_endian : (k x : ℕ) → bytes_low_first 0 k x ≡ little_endian k x
-bytes-little_endian k x = bytes-from k 0 x ∙ ap (little_endian k) (div-one x)
-
-pub take-little_endian : (n k x : ℕ) → n ≤ k → take n (little_endian k x) ≡ little_endian n x
-unfolding little_endian
-take-little_endian zero k x h = refl
-take-little_endian (suc n) zero x h = absurd (omega arith)
-take-little_endian (suc n) (suc k) x h = ap (λ (t : List ℕ). (x % 256) ∷ t) (take-little_endian n k (x / 256) (omega arith))
+use Rattle.byte_numbers.specs.Numbers.{little_endian}
+use Rattle.jam_codec.specs.Spelling.{natural, natural_with, tail_length, prefix_of, binary_number, bytes_for, packed}
+use Rattle.byte_numbers.specs.NumberLaws.{bytes-little_endian, take-little_endian, little_endian-first}
+use Rattle.jam_codec.specs.BitLaws.{binary_number-below}
 
 -- packed bits, a byte at a time
 binary_number-append : (low high : List Bool) → binary_number (low ++ high) ≡ binary_number low + 2 ^ length low * binary_number high
 binary_number-append [] high = omega arith
 binary_number-append (b ∷ low) high = rw (pow-succ' 2 (length low), binary_number-append low high) (omega arith)
-
-little_endian-first : (m low high : ℕ) → low < 256 → little_endian (suc m) (low + 256 * high) ≡ low ∷ little_endian m high
-unfolding little_endian
-little_endian-first m low high h =
-    let first : (low + 256 * high) % 256 ≡ low = omega arith in
-    let rest : (low + 256 * high) / 256 ≡ high = omega arith in
-    rw (first, rest) refl
 
 pub packed-none : (bits : List Bool) → length bits ≡ 0 → packed bits ≡ []
 unfolding little_endian
@@ -99,18 +71,6 @@ room_for_bit bits n some most =
     omega (arith, binary_number-below (drop n bits))
 
 -- a natural in an array
-least_with-next : (l : ℕ) → least_with (l + 1) ≡ 2 ^ (7 * l + 7)
-least_with-next l =
-    let some : nat_lt 0 (l + 1) ≡ true = lt-ltb 0 (l + 1) (omega arith) in
-    let power : 7 * (l + 1) ≡ 7 * l + 7 = omega arith in
-    rw (some, power) refl
-
-pub tail_length-next : (l x : ℕ) → x < 2 ^ 64 → l < 8 → least_with l ≤ x → x < least_with (l + 1) → tail_length x ≡ l
-tail_length-next l x h few least next =
-    let power : 7 - l + 8 * l ≡ 7 * l + 7 = omega arith in
-    let same : 2 ^ (7 - l + 8 * l) ≡ 2 ^ (7 * l + 7) = ap (λ (k : ℕ). 2 ^ k) power in
-    tail_length-is l x h (record { most = omega arith; least = least; below = omega (arith, least_with-next l) })
-
 tail_length-most : (x : ℕ) → tail_length x ≤ 8
 tail_length-most x = grind (arith, nat_tests)
 

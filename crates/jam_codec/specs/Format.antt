@@ -1,7 +1,8 @@
 -- Formats: which values of a type have a spelling, what it is, and how it is read. Formats of fields are put
 -- together into formats of records, lists and files; the laws of each come from those of its parts.
 use Rattle.std.specs.Prelude.{◌≡◌, ℕ, zero, suc, ◌*◌, ◌<◌, ◌^◌, Bool, true, List, [], ◌∷◌, ◌++◌, length, Result, Ok, Err, Option, Some, None, ◌⊎◌, if◌then◌else◌, nat_lt}
-use Rattle.jam_codec.specs.Spelling.{natural, little_endian, packed}
+use Rattle.jam_codec.specs.Spelling.{natural, packed}
+use Rattle.byte_numbers.specs.Numbers.{little_endian}
 use Rattle.jam_codec.specs.Reading.{Reading, ◌>>=◌, natural_at, bytes_at, fixed_at, bits_at}
 
 pub record Format (A : Type 0) : Type 1 where

@@ -1,10 +1,8 @@
 -- What holds of each format.
-use Rattle.std.specs.Prelude.{◌≡◌, ℕ, ◌+◌, ◌<◌, ◌≤◌, List, ◌++◌, length, get_or, Result, Ok, Err, ◌⊎◌}
+use Rattle.std.specs.Prelude.{◌≡◌, ℕ, ◌+◌, ◌≤◌, List, ◌++◌, length, Result, Ok, Err, ◌⊎◌}
+use Rattle.byte_numbers.specs.Numbers.{AreBytes}
 use Rattle.jam_codec.specs.Reading.{Reading, Takes}
 use Rattle.jam_codec.specs.Format.{Format, Spells, from, whole}
-
-abbrev pub AreBytes : List ℕ → Type 0
-AreBytes bytes = (k : ℕ) → get_or bytes k 0 < 256
 
 -- what is spelled is read, whatever follows it; what is read fits, and is spelled so
 pub record IsCode {A : Type 0} (Fits : A → Type 0) (spell : A → List ℕ) (read : Reading → Result (A × Reading) ℕ) : Type 0 where

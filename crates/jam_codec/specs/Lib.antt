@@ -4,3 +4,11 @@ pub mod Format
 pub mod Lists
 pub mod Laws
 pub mod Refusal
+pub mod NaturalLaws
+pub mod BitLaws
+pub mod JoinLaws
+pub mod FieldLaws
+pub mod NumberListLaws
+pub mod ListLaws
+pub mod WholeLaws
+pub mod FormatLaws

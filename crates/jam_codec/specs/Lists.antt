@@ -27,12 +27,12 @@ abbrev pub list_of : {A : Type 0} → (ℕ → Bool) → (Option A → Format A)
 list_of test g = by (λ p. p.1) (λ xs. (length xs, xs)) (both (natural_where test) (times g))
 
 -- an entry of a map: a key in the format that the key before it asks for, and a value
-abbrev pub entry_of : {K V : Type 0} → (Option K → Format K) → Format V → Option (K × V) → Format (K × V)
-entry_of key value last = both (key (option_map (λ entry. entry.0) last)) (λ k. value)
+abbrev pub map_entry : {K V : Type 0} → (Option K → Format K) → Format V → Option (K × V) → Format (K × V)
+map_entry key value last = both (key (option_map (λ entry. entry.0) last)) (λ k. value)
 
 -- any count, and so many entries
 abbrev pub map_of : {K V : Type 0} → (Option K → Format K) → Format V → Format (List (K × V))
-map_of key value = list_of any (entry_of key value)
+map_of key value = list_of any (map_entry key value)
 
 -- the entries, seen as a finite map
 abbrev pub fin_map_of : {K V : Type 0} → (R : K → K → Ordering) → (Option K → Format K) → Format V → Format (fin.FinMap R V)

@@ -1,6 +1,7 @@
 -- What stands at the front of bytes: a field's value and what is left, or nothing that spells.
 use Rattle.std.specs.Prelude.{◌≡◌, ℕ, ◌+◌, ◌-◌, ◌*◌, ◌^◌, Bool, List, [], ◌∷◌, ◌++◌, length, take, drop, Result, Ok, Err, Option, Some, None, if◌then◌else◌, nat_lt}
-use Rattle.jam_codec.specs.Spelling.{little_number, prefix_of, binary_digits, bytes_for}
+use Rattle.byte_numbers.specs.Numbers.{little_number}
+use Rattle.jam_codec.specs.Spelling.{prefix_of, binary_digits, bytes_for}
 
 -- how many bytes were read, and those that are left
 pub record Reading : Type 0 where

@@ -1,20 +1,6 @@
 -- How numbers and bits are spelled in bytes (Gray Paper 0.7.0, appendix C).
-use Rattle.std.specs.Prelude.{ℕ, zero, suc, ◌+◌, ◌-◌, ◌*◌, ◌/◌, ◌%◌, ◌^◌, Bool, ◌==◌, List, [], ◌∷◌, length, take, drop, if◌then◌else◌, nat_lt}
-
--- a number in n bytes, the least significant first
-unfoldable pub little_endian : ℕ → ℕ → List ℕ
-little_endian zero x = []
-little_endian (suc n) x = (x % 256) ∷ little_endian n (x / 256)
-
--- the number in these bytes, the least significant first
-abbrev pub little_number : List ℕ → ℕ
-little_number [] = 0
-little_number (b ∷ bs) = b + 256 * little_number bs
-
--- the numbers of n runs of `width` bytes, one after another
-unfoldable pub numbers : ℕ → ℕ → List ℕ → List ℕ
-numbers width zero bytes = []
-numbers width (suc n) bytes = little_number (take width bytes) ∷ numbers width n (drop width bytes)
+use Rattle.std.specs.Prelude.{ℕ, zero, suc, ◌+◌, ◌-◌, ◌*◌, ◌/◌, ◌%◌, ◌^◌, Bool, ◌==◌, List, [], ◌∷◌, length, if◌then◌else◌, nat_lt}
+use Rattle.byte_numbers.specs.Numbers.{little_endian}
 
 -- how many bytes follow the first one of a natural: the least l with x < 2 ^ (7 (l + 1)), and 8 from 2 ^ 56 on
 abbrev pub tail_length : ℕ → ℕ

@@ -3,7 +3,8 @@ ghost use Rattle.std.specs.Prelude.{◌≡◌, ◌+◌, ◌*◌, ◌^◌, ◌<�
 ghost use Rattle.jam_codec.specs.Reading.{Reading, Takes, Reads, natural_at, fixed_at, bytes_at, bits_at};
 ghost use Rattle.jam_codec.specs.Format.{any};
 ghost use Rattle.jam_codec.specs.Lists.{blob_where, HasNoBlob, option_tag};
-ghost use Rattle.jam_codec.specs.Spelling.{natural, little_endian, little_number, binary_digits, bytes_for, packed};
+ghost use Rattle.jam_codec.specs.Spelling.{natural, binary_digits, bytes_for, packed};
+ghost use Rattle.byte_numbers.specs.Numbers.{little_endian, little_number};
 
 use crate::natural::{number_of, split_natural};
 use crate::spare::has_spare_bit;
@@ -150,7 +151,8 @@ impl<'a> Cursor<'a> {
 
     /// A second cursor at the same place, for fields that are read all or none.
     pub fn ahead(&self) -> Cursor<'a>
-        ensures { result ≡ self.now }
+        ensures same { result ≡ self.now }
+        ensures bound { self.now.place + length self.now.rest < 2 ^ 64 }
     {
         Cursor {
             place: self.place,

@@ -1,5 +1,7 @@
-// What holds of the formats of fields, whatever test their values have to pass.
-ghost use Rattle.std.specs.Prelude.{ℕ, Bool, List, Option};
+// What holds of the spelling of a natural, and of the formats of fields, whatever test their values have to pass.
+ghost use Rattle.std.specs.Prelude.{◌≡◌, ◌+◌, ◌-◌, ◌*◌, ◌/◌, ◌%◌, ◌^◌, ◌<◌, ◌≤◌, ℕ, Bool, List, [], ◌∷◌, Option};
+ghost use Rattle.byte_numbers.specs.Numbers.{little_endian};
+ghost use Rattle.jam_codec.specs.Spelling.{natural};
 ghost use Rattle.jam_codec.specs.Format.{natural_where, fixed_where, bytes_where, bits_where, numbers_of};
 ghost use Rattle.jam_codec.specs.Lists.{blob_where, hash_and_number_after, option_tag};
 ghost use Rattle.jam_codec.specs.Laws.{IsFormat, HasOneSpelling, HasNoPrefix};
@@ -32,4 +34,12 @@ pub fn joined_laws()
     ensures blob { (test : List ℕ → Bool) → IsFormat (blob_where test) }
     ensures hash_and_number { (last : Option (List ℕ × ℕ)) → IsFormat (hash_and_number_after last) }
     ensures tag { IsFormat option_tag }
+{}
+
+/// The spelling of a natural, by its ranges: 0 is one byte; from 2^(7 l) on and below 2^(7 (l + 1)), for l below 8, l bytes
+/// follow the first one, which begins with l ones and holds the high part; from 2^56 on eight follow, and the first one is 255.
+pub fn natural_spelling_laws()
+    ensures zero { natural 0 ≡ 0 ∷ [] }
+    ensures short { (l x : ℕ) → l < 8 → 2 ^ (7 * l) ≤ x → x < 2 ^ (7 * (l + 1)) → natural x ≡ (2 ^ 8 - 2 ^ (8 - l) + x / 2 ^ (8 * l)) ∷ little_endian l (x % 2 ^ (8 * l)) }
+    ensures long { (x : ℕ) → 2 ^ 56 ≤ x → x < 2 ^ 64 → natural x ≡ 255 ∷ little_endian 8 x }
 {}

@@ -1,6 +1,7 @@
 // Numbers at the front of bytes.
 ghost use Rattle.std.specs.Prelude.{◌≡◌, ◌+◌, ◌-◌, ◌*◌, ◌^◌, ◌<◌, ◌≤◌, ◌++◌, length, IfSome, MatchOption, Some, None};
-ghost use Rattle.jam_codec.specs.Spelling.{little_endian, little_number, natural, prefix_of};
+ghost use Rattle.byte_numbers.specs.Numbers.{little_endian, little_number};
+ghost use Rattle.jam_codec.specs.Spelling.{natural, prefix_of};
 ghost use Rattle.jam_codec.specs.Reading.{least_with, natural_of, tail_after};
 
 use byteorder::{ByteOrder, LittleEndian};

@@ -1,7 +1,8 @@
 // The spare bits of packed bits.
 ghost use Rattle.std.specs.Prelude.{◌≡◌, ◌^◌, ◌≤◌, length, IsTrue, ◌↔◌};
 ghost use Rattle.std.specs.Bool.{OnFalse};
-ghost use Rattle.jam_codec.specs.Spelling.{binary_digits, bytes_for, little_number, packed};
+ghost use Rattle.jam_codec.specs.Spelling.{binary_digits, bytes_for, packed};
+ghost use Rattle.byte_numbers.specs.Numbers.{little_number};
 
 /// Whether a bit is set beyond the n bits that these bytes hold.
 pub fn has_spare_bit(bytes: &[u8], n: u64) -> bool

@@ -1,6 +1,7 @@
 // Spellings at the end of bytes.
 ghost use Rattle.std.specs.Prelude.{◌≡◌, ◌+◌, ◌-◌, ◌*◌, ◌/◌, ◌%◌, ◌^◌, ◌<◌, ◌≤◌, ◌++◌, length, take, drop, replicate, OnOk, OnErr};
-ghost use Rattle.jam_codec.specs.Spelling.{natural, little_endian, tail_length, prefix_of, binary_number, packed};
+ghost use Rattle.jam_codec.specs.Spelling.{natural, tail_length, prefix_of, binary_number, packed};
+ghost use Rattle.byte_numbers.specs.Numbers.{little_endian};
 
 use crate::natural::least_natural;
 use std::alloc::AllocError;

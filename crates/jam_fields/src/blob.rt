@@ -6,7 +6,7 @@ ghost use Rattle.std.specs.Ordering.{nat_cmp};
 ghost use Rattle.std.specs.Option.{option_copied};
 ghost use Rattle.jam_codec.specs.Format.{any};
 ghost use Rattle.jam_codec.specs.Lists.{blob_where, blob_after, follows};
-ghost use Rattle.jam_codec.proofs.FormatLaws.{blob_laws, blob_after_laws};
+ghost use Rattle.jam_codec.specs.FormatLaws.{blob_laws, blob_after_laws};
 ghost use Rattle.jam_codec.specs.Reading.{Reads};
 ghost use Rattle.jam_codec.specs.Refusal.{place_of};
 

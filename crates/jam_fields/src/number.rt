@@ -5,7 +5,7 @@ ghost use Rattle.std.specs.Option.{option_copied};
 ghost use Rattle.std.specs.Ordering.{nat_cmp};
 ghost use Rattle.jam_codec.specs.Format.{any, natural_where, fixed_where, bytes_where};
 ghost use Rattle.jam_codec.specs.Lists.{number_after, follows, up_to};
-ghost use Rattle.jam_codec.proofs.FormatLaws.{fixed_laws, bytes_laws, number_after_laws};
+ghost use Rattle.jam_codec.specs.FormatLaws.{fixed_laws, bytes_laws, number_after_laws};
 ghost use Rattle.jam_codec.specs.Reading.{Reads};
 ghost use Rattle.jam_codec.specs.Refusal.{place_of};
 ghost use Rattle.jam_codec.specs.declared.refusal.FileRefusal.TheVariants.{Malformed};

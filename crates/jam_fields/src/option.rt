@@ -2,7 +2,7 @@
 ghost use Rattle.std.specs.Prelude.{◌≡◌, ◌++◌, OnOk, OnErr};
 ghost use Rattle.std.specs.Io.{StartsWith};
 ghost use Rattle.jam_codec.specs.Lists.{option_of};
-ghost use Rattle.jam_codec.proofs.FormatLaws.{option_laws};
+ghost use Rattle.jam_codec.specs.FormatLaws.{option_laws};
 ghost use Rattle.jam_codec.specs.Reading.{Reads};
 ghost use Rattle.jam_codec.specs.Refusal.{place_of};
 

@@ -1,10 +1,10 @@
 // Rows: values whose format the one before them decides.
-ghost use Rattle.std.specs.Prelude.{◌≡◌, OnErr, Option, None};
+ghost use Rattle.std.specs.Prelude.{◌≡◌, ◌+◌, ◌<◌, ◌^◌, length, OnErr, Option, None};
 ghost use Rattle.std.specs.Option.{option_copied, option_map};
 ghost use Rattle.jam_codec.specs.Format.{Format, any, items_at};
-ghost use Rattle.jam_codec.specs.Lists.{list_of, entry_of};
+ghost use Rattle.jam_codec.specs.Lists.{list_of, map_entry};
 ghost use Rattle.jam_codec.specs.Laws.{IsFormat};
-ghost use Rattle.jam_codec.proofs.FormatLaws.{entry_laws};
+ghost use Rattle.jam_codec.specs.FormatLaws.{entry_laws};
 ghost use Rattle.jam_codec.specs.Reading.{Reads};
 ghost use Rattle.jam_codec.specs.Refusal.{place_of};
 
@@ -34,7 +34,7 @@ pub trait Row: Drop {
 
 // An entry of a map: its key decides the format of the next key.
 impl<K: Row, V: Field> Row for (K, V) {
-    ghost after = { entry_of K.after V.format };
+    ghost after = { map_entry K.after V.format };
 
     fn read_after(
         alloc: Global,
@@ -70,13 +70,15 @@ fn read_times<T: Row>(
     Ok(rows)
 }
 
-/// A count, and so many rows. Room is made for each row as it is read.
+/// A count, and so many rows. Room is made for each row as it is read. The bytes that were read and
+/// those that are left are fewer than 2^64.
 ///
 /// # Errors
 /// `Malformed` at the first field that does not spell; `NoMemory`. The cursor stays where it was
 /// then.
 pub fn read_rows<T: Row>(alloc: Global, cursor: &mut Cursor<'_>) -> Result<Vec<T>, FileRefusal>
     ensures exact { Reads place_of (λ rows. rows.items) result cursor.new ((list_of any T.after).read cursor.old) }
+    ensures bound { cursor.old.place + length cursor.old.rest < 2 ^ 64 }
     ensures err { OnErr result (cursor.new ≡ cursor.old) }
 {
     let mut ahead = cursor.ahead();

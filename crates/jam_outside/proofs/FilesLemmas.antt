@@ -10,7 +10,7 @@ use Rattle.std.specs.declared.alloc.Global.{Global}
 use Rattle.std.specs.FinMap as fin
 use Rattle.std.specs.FinMap.{nat_cmp-IsAntisymmetric, slice_cmp-IsAntisymmetric}
 use Rattle.std.proofs.lemmas.Map.Text.{btree_map_updates_text, is_eq-slice_cmp}
-use Rattle.jam_outside.specs.Files.{files_of, plain}
+use Rattle.jam_outside.specs.Files.{files_of, named_bytes}
 
 abbrev Bytes : Type 0
 Bytes = Vec ℕ Global
@@ -19,17 +19,17 @@ abbrev bytes_at : Option Bytes → Option (List ℕ)
 bytes_at found = option_map (λ (v : Bytes). v.items) found
 
 -- a scan of the plain entries finds what a scan of the program's does
-find-plain : (name : List ℕ) (entries : List (String Global × Bytes)) → fin.find (slice_cmp nat_cmp) name (map plain entries) ≡ bytes_at (lookup (is_at (λ (k : String Global). slice_cmp nat_cmp name (string_bytes k))) entries)
+find-plain : (name : List ℕ) (entries : List (String Global × Bytes)) → fin.find (slice_cmp nat_cmp) name (map named_bytes entries) ≡ bytes_at (lookup (is_at (λ (k : String Global). slice_cmp nat_cmp name (string_bytes k))) entries)
 find-plain name [] = refl
 find-plain name (e ∷ rest) =
-    let later : fin.find (slice_cmp nat_cmp) name (map plain rest) ≡ bytes_at (lookup (is_at (λ (k : String Global). slice_cmp nat_cmp name (string_bytes k))) rest) = find-plain name rest in
-    elim (is_eq (slice_cmp nat_cmp name (string_bytes e.0))) as (λ b. cond b (Some e.1.items) (fin.find (slice_cmp nat_cmp) name (map plain rest)) ≡ bytes_at (cond b (Some e.1) (lookup (is_at (λ (k : String Global). slice_cmp nat_cmp name (string_bytes k))) rest))) [
+    let later : fin.find (slice_cmp nat_cmp) name (map named_bytes rest) ≡ bytes_at (lookup (is_at (λ (k : String Global). slice_cmp nat_cmp name (string_bytes k))) rest) = find-plain name rest in
+    elim (is_eq (slice_cmp nat_cmp name (string_bytes e.0))) as (λ b. cond b (Some e.1.items) (fin.find (slice_cmp nat_cmp) name (map named_bytes rest)) ≡ bytes_at (cond b (Some e.1) (lookup (is_at (λ (k : String Global). slice_cmp nat_cmp name (string_bytes k))) rest))) [
       | true ↦ refl
       | false ↦ later
     ]
 
 pub get-files_of : (m : BTreeMap (String Global) (Vec ℕ Global)) (name : List ℕ) → fin.get (files_of m) name ≡ option_map (λ (v : Vec ℕ Global). v.items) (get_by_text m name)
-get-files_of m name = fin.get-from_entries nat_list_cmp_total (map plain m.entries) name ∙ find-plain name m.entries
+get-files_of m name = fin.get-from_entries nat_list_cmp_total (map named_bytes m.entries) name ∙ find-plain name m.entries
 
 bytes_at-cond : (b : Bool) (v : Bytes) (o : Option Bytes) → bytes_at (cond b (Some v) o) ≡ cond b (Some v.items) (bytes_at o)
 bytes_at-cond true v o = refl

@@ -14,14 +14,14 @@ Files = fin.FinMap (slice_cmp nat_cmp) (List ℕ)
 abbrev pub content : Files → List ℕ → List ℕ
 content files name = unwrap_or (fin.get files name) []
 
--- an entry of a map of the program, as plain data
-abbrev pub plain : String Global × Vec ℕ Global → List ℕ × List ℕ
-plain entry = (string_bytes entry.0, entry.1.items)
+-- an entry of a map of the program: the bytes of a name, and those under it
+abbrev pub named_bytes : String Global × Vec ℕ Global → List ℕ × List ℕ
+named_bytes entry = (string_bytes entry.0, entry.1.items)
 
 abbrev pub files_of : BTreeMap (String Global) (Vec ℕ Global) → Files
-files_of m = fin.from_entries (map plain m.entries)
+files_of m = fin.from_entries (map named_bytes m.entries)
 
 -- a read gave n bytes of the file from the place on, and none only where none was asked for or none is left
-pub record Gives (file : List ℕ) (place : ℕ) (buf : List ℕ) (n : ℕ) : Type 0 where
+pub record IsPiece (file : List ℕ) (place : ℕ) (buf : List ℕ) (n : ℕ) : Type 0 where
   pub bytes : take n buf ≡ take n (drop place file)
   pub none : n ≡ 0 → (length buf ≡ 0) ⊎ (length file ≤ place)

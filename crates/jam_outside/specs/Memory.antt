@@ -8,16 +8,16 @@ use Rattle.jam_outside.specs.Causes.{VaultState, SinkState, counted}
 use Rattle.jam_outside.specs.declared.vault.OutsideError.{OutsideError}
 use Rattle.jam_outside.specs.declared.vault.OutsideError.TheVariants as outside
 
-abbrev pub files_code : Coded Files
-files_code = fin.code (coded_list coded_ℕ) (coded_list coded_ℕ)
+abbrev pub coded_files : Coded Files
+coded_files = fin.code (coded_list coded_ℕ) (coded_list coded_ℕ)
 
 -- files, and how many stores were made
 pub record SureFiles : Type 0 where
   pub files : Files
   pub stores : ℕ
 
-abbrev pub sure_files_code : Coded SureFiles
-sure_files_code = code_by (Files × ℕ) (coded× files_code coded_ℕ) (λ v. (v.files, v.stores)) (λ p. record { files = p.0; stores = p.1 }) (λ _. refl)
+abbrev pub coded_sure_files : Coded SureFiles
+coded_sure_files = code_by (Files × ℕ) (coded× coded_files coded_ℕ) (λ v. (v.files, v.stores)) (λ p. record { files = p.0; stores = p.1 }) (λ _. refl)
 
 -- a vault of these that never fails
 abbrev pub sure_vault : SureFiles → VaultState
@@ -45,10 +45,10 @@ pub record FailingVault : Type 0 where
   pub failed_place : ℕ
   pub store_failed : List ℕ
 
-abbrev pub failing_vault_code : Coded FailingVault
-failing_vault_code =
+abbrev pub coded_failing_vault : Coded FailingVault
+coded_failing_vault =
     code_by (Files × (List ℕ × (List ℕ × (ℕ × (ℕ × (ℕ × (ℕ × (ℕ × (List ℕ × List ℕ)))))))))
-    (coded× files_code (coded× (coded_list coded_ℕ) (coded× (coded_list coded_ℕ) (coded× coded_ℕ (coded× coded_ℕ (coded× coded_ℕ (coded× coded_ℕ (coded× coded_ℕ (coded× (coded_list coded_ℕ) (coded_list coded_ℕ))))))))))
+    (coded× coded_files (coded× (coded_list coded_ℕ) (coded× (coded_list coded_ℕ) (coded× coded_ℕ (coded× coded_ℕ (coded× coded_ℕ (coded× coded_ℕ (coded× coded_ℕ (coded× (coded_list coded_ℕ) (coded_list coded_ℕ))))))))))
     (λ v. (v.files, (v.fail_reads, (v.fail_stores, (v.reads, (v.stores, (v.read_faults, (v.store_faults, (v.failed_place, (v.failed, v.store_failed))))))))))
     (λ p. record { files = p.0; fail_reads = p.1.0; fail_stores = p.1.1.0; reads = p.1.1.1.0; stores = p.1.1.1.1.0; read_faults = p.1.1.1.1.1.0; store_faults = p.1.1.1.1.1.1.0; failed_place = p.1.1.1.1.1.1.1.0; failed = p.1.1.1.1.1.1.1.1.0; store_failed = p.1.1.1.1.1.1.1.1.1 })
     (λ _. refl)

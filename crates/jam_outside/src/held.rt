@@ -1,7 +1,7 @@
 // Files held in memory, as a map of the program.
 ghost use Rattle.std.specs.FinMap as fin;
 ghost use Rattle.std.specs.Prelude.{◌≡◌, ◌-◌, length, min, OnOk, OnErr, IsErrOf};
-ghost use Rattle.jam_outside.specs.Files.{Gives, files_of};
+ghost use Rattle.jam_outside.specs.Files.{IsPiece, files_of};
 
 use crate::OutsideError;
 use std::alloc::Global;
@@ -10,7 +10,7 @@ use std::collections::BTreeMap;
 // Copies as many of the file's bytes as there are from the place on and fit, and answers how many.
 pub fn copy_part(file: &[u8], place: u64, buf: &mut [u8]) -> usize
     ensures count { result ≡ min (length buf.new) (length file.now - place) }
-    ensures gives { Gives file.now place buf.new result }
+    ensures gives { IsPiece file.now place buf.new result }
 {
     let start = file.len().min(place as usize);
     let left = &file[start..];

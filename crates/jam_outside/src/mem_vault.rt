@@ -1,6 +1,6 @@
 // A vault in memory whose listed calls fail.
 ghost use Rattle.std.specs.Prelude.{◌≡◌, ◌-◌, ◌≤◌, [], length, min, IsTrue, IfOk, IfSome, is_err};
-ghost use Rattle.jam_outside.specs.Files.{Gives, content, files_of};
+ghost use Rattle.jam_outside.specs.Files.{IsPiece, content, files_of};
 ghost use Rattle.jam_outside.specs.Causes.{read_leaves, store_leaves, is_failed};
 ghost use Rattle.jam_outside.specs.Memory.{vault_state, refuses_read, refuses_store, after_read, after_store};
 
@@ -37,11 +37,11 @@ pub struct MemVault {
 impl Model for MemVault {
     ghost use Rattle.std.specs.Prelude.{string_bytes};
     ghost use Rattle.jam_outside.specs.Files.{files_of};
-    ghost use Rattle.jam_outside.specs.Memory.{FailingVault, failing_vault_code};
+    ghost use Rattle.jam_outside.specs.Memory.{FailingVault, coded_failing_vault};
 
     ghost Value = { FailingVault };
 
-    ghost coded = { failing_vault_code };
+    ghost coded = { coded_failing_vault };
 
     ghost view = { λ v. record { files = files_of v.files; fail_reads = v.fail_reads.items; fail_stores = v.fail_stores.items; reads = v.reads; stores = v.stores; read_faults = v.read_faults; store_faults = v.store_faults; failed = string_bytes v.failed; failed_place = v.failed_place; store_failed = string_bytes v.store_failed } };
 }
@@ -80,7 +80,7 @@ impl Vault for MemVault {
     /// there; where there is no memory to keep the name of a failure, it answers NoMemory.
     fn read_at(&mut self, name: &str, place: u64, buf: &mut [u8]) -> Result<usize, OutsideError>
         ensures fits { IfOk result (λ n. n ≤ length buf.new) }
-        ensures gives { IfOk result (λ n. IfSome (vault_state self.old).files (λ held. Gives (content held name.now) place buf.new n)) }
+        ensures gives { IfOk result (λ n. IfSome (vault_state self.old).files (λ held. IsPiece (content held name.now) place buf.new n)) }
         ensures state { vault_state self.new ≡ read_leaves result (vault_state self.old) name.now place }
         ensures refused { is_err result ≡ refuses_read self.old name.now }
         ensures count { IfOk result (λ n. n ≡ min (length buf.new) (length (content self.old.files name.now) - place)) }

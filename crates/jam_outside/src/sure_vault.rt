@@ -1,6 +1,6 @@
 // A vault in memory that never fails.
 ghost use Rattle.std.specs.Prelude.{◌≡◌, ◌-◌, ◌≤◌, Ok, length, min, IfOk, IfSome};
-ghost use Rattle.jam_outside.specs.Files.{Gives, content, files_of};
+ghost use Rattle.jam_outside.specs.Files.{IsPiece, content, files_of};
 ghost use Rattle.jam_outside.specs.Causes.{counted, read_leaves};
 ghost use Rattle.jam_outside.specs.Memory.{sure_vault};
 
@@ -21,11 +21,11 @@ pub struct SureVault {
 
 impl Model for SureVault {
     ghost use Rattle.jam_outside.specs.Files.{files_of};
-    ghost use Rattle.jam_outside.specs.Memory.{SureFiles, sure_files_code};
+    ghost use Rattle.jam_outside.specs.Memory.{SureFiles, coded_sure_files};
 
     ghost Value = { SureFiles };
 
-    ghost coded = { sure_files_code };
+    ghost coded = { coded_sure_files };
 
     ghost view = { λ v. record { files = files_of v.held; stores = v.stores } };
 }
@@ -50,7 +50,7 @@ impl Vault for SureVault {
     /// Never fails, and gives as many bytes as fit.
     fn read_at(&mut self, name: &str, place: u64, buf: &mut [u8]) -> Result<usize, OutsideError>
         ensures fits { IfOk result (λ n. n ≤ length buf.new) }
-        ensures gives { IfOk result (λ n. IfSome (sure_vault self.old).files (λ held. Gives (content held name.now) place buf.new n)) }
+        ensures gives { IfOk result (λ n. IfSome (sure_vault self.old).files (λ held. IsPiece (content held name.now) place buf.new n)) }
         ensures state { sure_vault self.new ≡ read_leaves result (sure_vault self.old) name.now place }
         ensures count { result ≡ Ok (min (length buf.new) (length (content self.old.files name.now) - place)) }
     {

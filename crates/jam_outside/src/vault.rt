@@ -1,7 +1,7 @@
 // A vault of named files.
 ghost use Rattle.std.specs.Prelude.{◌≡◌, ◌≤◌, length, IfOk, IfSome};
 ghost use Rattle.jam_outside.specs.declared.vault.OutsideError.TheVariants.{NoMemory};
-ghost use Rattle.jam_outside.specs.Files.{Gives, content};
+ghost use Rattle.jam_outside.specs.Files.{IsPiece, content};
 ghost use Rattle.jam_outside.specs.Causes.{VaultState, read_leaves, store_leaves};
 
 use std::alloc::{AllocError, AllocFailed};
@@ -46,7 +46,7 @@ pub trait Vault {
     /// fail leaves all as it was; one that does raises its count by one and leaves the others.
     fn read_at(&mut self, name: &str, place: u64, buf: &mut [u8]) -> Result<usize, OutsideError>
         ensures fits { IfOk result (λ n. n ≤ length buf.new) }
-        ensures gives { IfOk result (λ n. IfSome (state self.old).files (λ held. Gives (content held name.now) place buf.new n)) }
+        ensures gives { IfOk result (λ n. IfSome (state self.old).files (λ held. IsPiece (content held name.now) place buf.new n)) }
         ensures state { state self.new ≡ read_leaves result (state self.old) name.now place };
 
     /// Gives a name these bytes in place of what it held. A refusal leaves the files.

@@ -42,11 +42,11 @@ available (x ∷ y ∷ z ∷ []) at = (nat_le x at && nat_lt at y) || nat_le z a
 available (x ∷ y ∷ z ∷ w ∷ more) at = false
 
 -- the two words that answer a query: how many slots and the first, the second and the third
-abbrev pub words : List ℕ → ℕ × ℕ
-words [] = (0, 0)
-words (x ∷ []) = (1 + 2 ^ 32 * x, 0)
-words (x ∷ y ∷ []) = (2 + 2 ^ 32 * x, y)
-words (x ∷ y ∷ z ∷ more) = (3 + 2 ^ 32 * x, y + 2 ^ 32 * z)
+abbrev pub query_words : List ℕ → ℕ × ℕ
+query_words [] = (0, 0)
+query_words (x ∷ []) = (1 + 2 ^ 32 * x, 0)
+query_words (x ∷ y ∷ []) = (2 + 2 ^ 32 * x, y)
+query_words (x ∷ y ∷ z ∷ more) = (3 + 2 ^ 32 * x, y + 2 ^ 32 * z)
 
 -- a preimage is given, which nobody gave before
 abbrev pub deliver : List ℕ → ℕ → Option (List ℕ)

@@ -5,7 +5,7 @@ use Rattle.std.proofs.lemmas.List.{length-take-le, take-append-drop}
 use Rattle.preimage_store.specs.declared.history.History.TheInside.{Inside}
 
 -- three slots are kept, of which so many are used, and the others are 0
-pub record Keeps (h : Inside) : Type 0 where
+pub record KeepsSlots (h : Inside) : Type 0 where
   pub few : h.count ≤ 3
   pub room : length h.slots ≡ 3
   pub unused : drop h.count h.slots ≡ replicate (3 - h.count) 0
@@ -18,7 +18,7 @@ used h = take h.count h.slots
 abbrev pub kept : List ℕ → Inside
 kept slots = record { count = length slots; slots = slots ++ replicate (3 - length slots) 0 }
 
-pub kept-used : (h : Inside) → Keeps h → kept (used h) ≡ h
+pub kept-used : (h : Inside) → KeepsSlots h → kept (used h) ≡ h
 kept-used h keeps =
     let within : h.count ≤ length h.slots = subst (λ n. h.count ≤ n) (sym keeps.room) keeps.few in
     ap (λ n. record { count = n; slots = used h ++ replicate (3 - n) 0 }) (length-take-le h.count h.slots within)

@@ -1,6 +1,6 @@
 // The history of a preimage.
 ghost use Rattle.std.specs.Prelude.{◌≡◌, ◌≤◌, ◌+◌, ◌*◌, ◌^◌, [], ◌∷◌, length, nat_le, if◌then◌else◌};
-ghost use Rattle.preimage_store.specs.History.{solicit, is_expunged, forget, available, words, deliver};
+ghost use Rattle.preimage_store.specs.History.{solicit, is_expunged, forget, available, query_words, deliver};
 
 use std::marker::Model;
 
@@ -21,13 +21,13 @@ pub struct History {
 
 impl Model for History {
     ghost use Rattle.std.specs.Prelude.{ℕ, List};
-    ghost use Rattle.preimage_store.specs.Kept.{Keeps, used, kept, kept-used};
+    ghost use Rattle.preimage_store.specs.Kept.{KeepsSlots, used, kept, kept-used};
 
     ghost Value = { List ℕ };
 
     ghost view = { used };
 
-    ghost invariant = { Keeps };
+    ghost invariant = { KeepsSlots };
 
     ghost inverse = { kept };
 
@@ -128,7 +128,7 @@ impl History {
     /// The two words that answer a query. Their lower halves are how many slots there are and the
     /// second slot, their upper halves the first and the third; a slot that isn't there is 0.
     pub fn words(&self) -> (u64, u64)
-        ensures { result ≡ words self.now }
+        ensures { result ≡ query_words self.now }
     {
         match *self.slots() {
             [] => (0, 0),

@@ -39,11 +39,11 @@ pub struct Machine {
 }
 
 impl Model for Machine {
-    ghost use Rattle.pvm_step.specs.Machine.{Machine, machine_code};
+    ghost use Rattle.pvm_step.specs.Machine.{Machine, coded_machine};
 
     ghost Value = { Machine };
 
-    ghost coded = { machine_code };
+    ghost coded = { coded_machine };
 
     ghost view = { λ m. record { program = m.program.value; pc = m.pc; registers = m.registers; memory = m.memory; heap = m.heap; gas = m.ledger; costs = m.costs } };
 }

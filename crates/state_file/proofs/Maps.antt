@@ -13,9 +13,10 @@ use Rattle.std.specs.FinMap as fin
 use Rattle.std.specs.FinMap.Entries.{is_sorted, below_all, find}
 use Rattle.jam_codec.specs.Format.{any, items_spelled, items_fit}
 use Rattle.jam_codec.specs.Lists.{follows, blob_by_after, hash_and_number_cmp, is_hash_from}
-use Rattle.jam_fields.specs.Rows.{last_of}
-use Rattle.jam_fields.proofs.Sorted.{insert_end, from_sorted_is, follows_last, below_at, first_of, second_of, less_of}
-use Rattle.jam_fields.proofs.Items.{items_spelled-append}
+use Rattle.jam_fields.specs.Rows.{last_item}
+use Rattle.jam_fields.specs.SortedLaws.{insert_end, from_sorted_is, follows_last, below_at}
+use Rattle.jam_codec.specs.FormatLaws.{left_holds, right_holds, holds_less}
+use Rattle.jam_fields.specs.ItemLaws.{items_spelled-append}
 
 nothing : {A : Type 0} (xs : List A) → length xs ≡ 0 → xs ≡ []
 nothing [] e = refl
@@ -41,17 +42,17 @@ module _ {K X : Type 0} {R : K → K → Ordering} (total : IsTotalOrder R) wher
   found_among : (front rest : List (K × X)) (k : K) (v : X) → T (is_sorted R (front ++ (k, v) ∷ rest)) → find R k (front ++ (k, v) ∷ rest) ≡ Some v
   found_among [] rest k v h = ap (λ o. cond (is_eq o) (Some v) (find R k rest)) (tied_itself total k)
   found_among (e ∷ front) rest k v h =
-      let less : R e.0 k ≡ Less = below_at R total e.0 front rest k v (first_of (below_all R e.0 (front ++ (k, v) ∷ rest)) (is_sorted R (front ++ (k, v) ∷ rest)) h) in
+      let less : R e.0 k ≡ Less = below_at R total e.0 front rest k v (left_holds (below_all R e.0 (front ++ (k, v) ∷ rest)) (is_sorted R (front ++ (k, v) ∷ rest)) h) in
       let greater : R k e.0 ≡ Greater = total.antisymm k e.0 ∙ ap ordering_reverse less in
       ap (λ o. cond (is_eq o) (Some e.1) (find R k (front ++ (k, v) ∷ rest))) greater
-      ∙ found_among front rest k v (second_of (below_all R e.0 (front ++ (k, v) ∷ rest)) (is_sorted R (front ++ (k, v) ∷ rest)) h)
+      ∙ found_among front rest k v (right_holds (below_all R e.0 (front ++ (k, v) ∷ rest)) (is_sorted R (front ++ (k, v) ∷ rest)) h)
 
   pub found_at : (m : fin.FinMap R X) (front rest : List (K × X)) (k : K) (v : X) → fin.entries m ≡ front ++ (k, v) ∷ rest → fin.get m k ≡ Some v
   found_at m front rest k v parts =
       fin.get-entries m k ∙ ap (find R k) parts ∙ found_among front rest k v (subst (λ (es : List (K × X)). T (is_sorted R es)) parts (fin.entries_sorted m))
 
   -- an entry that is written stands above the ones before it
-  pub follows_before : (m : fin.FinMap R X) (front left : List (K × X)) (k : K) (v : X) → fin.entries m ≡ front ++ (k, v) ∷ left → follows R (option_map (λ (e : K × X). e.0) (last_of front)) k ≡ true
+  pub follows_before : (m : fin.FinMap R X) (front left : List (K × X)) (k : K) (v : X) → fin.entries m ≡ front ++ (k, v) ∷ left → follows R (option_map (λ (e : K × X). e.0) (last_item front)) k ≡ true
   follows_before m front left k v parts = follows_last R total front left k v (subst (λ (es : List (K × X)). T (is_sorted R es)) parts (fin.entries_sorted m))
 
 -- a count of a map, and what stands behind it
@@ -134,15 +135,15 @@ fit_after : (l : List ℕ × List ℕ) (es : List (List ℕ × List ℕ)) → l.
 unfolding items_fit
 fit_after l [] first below sorted stand = tt
 fit_after l (e ∷ es) first below sorted stand =
-    let less : bytes_cmp l.0 e.0 ≡ Less = less_of (bytes_cmp l.0 e.0) (first_of (is_lt (bytes_cmp l.0 e.0)) (below_all bytes_cmp l.0 es) below) in
+    let less : bytes_cmp l.0 e.0 ≡ Less = holds_less (bytes_cmp l.0 e.0) (left_holds (is_lt (bytes_cmp l.0 e.0)) (below_all bytes_cmp l.0 es) below) in
     let above : bytes_cmp (digest l.1) (digest e.1) ≡ Less = ap (λ k. bytes_cmp k (digest e.1)) (sym first) ∙ ap (λ k. bytes_cmp l.0 k) (sym stand.0.0) ∙ less in
-    (((stand.0.1, refl), (refl, ap is_lt above)), fit_after e es stand.0.0 (first_of (below_all bytes_cmp e.0 es) (is_sorted bytes_cmp es) sorted) (second_of (below_all bytes_cmp e.0 es) (is_sorted bytes_cmp es) sorted) stand.1)
+    (((stand.0.1, refl), (refl, ap is_lt above)), fit_after e es stand.0.0 (left_holds (below_all bytes_cmp e.0 es) (is_sorted bytes_cmp es) sorted) (right_holds (below_all bytes_cmp e.0 es) (is_sorted bytes_cmp es) sorted) stand.1)
 
 fit_values : (es : List (List ℕ × List ℕ)) → T (is_sorted bytes_cmp es) → Stand es → items_fit (blob_by_after digest) (length (map (λ (p : List ℕ × List ℕ). p.1) es)) None (map (λ (p : List ℕ × List ℕ). p.1) es)
 unfolding items_fit
 fit_values [] sorted stand = tt
 fit_values (e ∷ es) sorted stand =
-    (((stand.0.1, refl), (refl, refl)), fit_after e es stand.0.0 (first_of (below_all bytes_cmp e.0 es) (is_sorted bytes_cmp es) sorted) (second_of (below_all bytes_cmp e.0 es) (is_sorted bytes_cmp es) sorted) stand.1)
+    (((stand.0.1, refl), (refl, refl)), fit_after e es stand.0.0 (left_holds (below_all bytes_cmp e.0 es) (is_sorted bytes_cmp es) sorted) (right_holds (below_all bytes_cmp e.0 es) (is_sorted bytes_cmp es) sorted) stand.1)
 
 pub all_fit : (m : Preimages) (left : List (List ℕ × List ℕ)) (old new : List ℕ) → Written m left old new → left ≡ [] → items_fit (blob_by_after digest) (length (fin.values m)) None (fin.values m)
 all_fit m left old new w none =

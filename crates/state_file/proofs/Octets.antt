@@ -3,17 +3,16 @@ use Rattle.std.proofs.Common.{◌≡◌, ℕ, ◌+◌, ◌*◌, ◌<◌, ◌≤�
 use Rattle.std.specs.Prelude.{T}
 use Rattle.std.specs.List.{sum_by}
 use Rattle.std.proofs.lemmas.List.Sums.{sum_by-cons, sum_by-append}
-use Rattle.std.specs.Cmp.Lexicographic.{nat_list_cmp_total}
+use Rattle.std.specs.Cmp.Lexicographic.{nat_list_cmp_total, slice_cmp}
 use Rattle.std.specs.FinMap as fin
 use Rattle.std.specs.FinMap.Entries.{is_sorted}
 use Rattle.jam_codec.specs.Reading.{Reading}
 use Rattle.jam_codec.specs.Format.{any}
-use Rattle.jam_codec.specs.Lists.{blob_where, blob_after, entry_of, map_of, follows, hash_and_number_cmp}
+use Rattle.jam_codec.specs.Lists.{blob_where, blob_after, map_entry, map_of, follows, hash_and_number_cmp}
 use Rattle.std.specs.Ordering.{nat_cmp}
-use Rattle.std.specs.Cmp.Lexicographic.{slice_cmp}
-use Rattle.jam_codec.proofs.FormatLaws.{hash_and_number_total}
-use Rattle.jam_fields.proofs.Sorted.{ListRead, list_read, map_sorted, blob_above, insert_end}
-use Rattle.jam_fields.proofs.Sizes.{natural_size, blob_size, entry_size, items_size}
+use Rattle.jam_codec.specs.FormatLaws.{hash_and_number_total}
+use Rattle.jam_fields.specs.SortedLaws.{ListRead, list_read, map_sorted, blob_above, insert_end}
+use Rattle.jam_fields.specs.SizeLaws.{natural_size, blob_size, entry_size, items_size}
 use Rattle.jam_accounts.specs.Accounts.{Lookups, bytes_cmp}
 use Rattle.jam_accounts.specs.Footprint.{value_octets, history_octets, storage_octets, lookups_octets}
 
@@ -27,9 +26,9 @@ octets-lengths (e ∷ es) = omega (arith, sum_by-cons value_octets e es, sum_by-
 
 pub values_small : (r s : Reading) (es : List (List ℕ × List ℕ)) → (map_of blob_after (blob_where any)).read r ≡ Ok (es, s) → length r.rest < 2 ^ 64 → length es < 2 ^ 64 → storage_octets (fin.from_sorted {R = bytes_cmp} es) < 2 ^ 99
 values_small r s es e bytes count =
-    let l : ListRead any (entry_of blob_after (blob_where any)) r es s = list_read any (entry_of blob_after (blob_where any)) r es s e in
+    let l : ListRead any (map_entry blob_after (blob_where any)) r es s = list_read any (map_entry blob_after (blob_where any)) r es s e in
     let size : sum_by lengths es + length s.rest ≤ length l.mid.rest =
-    items_size (entry_of blob_after (blob_where any)) lengths (entry_size blob_after (blob_where any) length length (λ last. blob_size (follows (slice_cmp nat_cmp) last)) (blob_size any)) l.count None l.mid es s l.items in
+    items_size (map_entry blob_after (blob_where any)) lengths (entry_size blob_after (blob_where any) length length (λ last. blob_size (follows (slice_cmp nat_cmp) last)) (blob_size any)) l.count None l.mid es s l.items in
     let entries : fin.entries (fin.from_sorted {R = bytes_cmp} es) ≡ es = fin.entries-from_sorted bytes_cmp es (map_sorted bytes_cmp nat_list_cmp_total blob_after (blob_where any) blob_above r es s e) in
     subst (λ xs. sum_by value_octets xs < 2 ^ 99) (sym entries) (omega (arith, size, octets-lengths es, natural_size r l.count l.mid l.number))
 

@@ -1,21 +1,19 @@
 -- The laws of the file of a state.
-use Rattle.std.specs.Prelude.{◌==◌}
+use Rattle.std.specs.Prelude.{◌==◌, T}
 use Rattle.std.proofs.Common.{◌≡◌, ℕ, Bool, true, false, List, [], ◌∷◌, map, length, cond, refl, sym, ap, ◌∙◌, subst, Some, None}
-use Rattle.std.specs.Prelude.{T}
 use Rattle.std.specs.declared.cmp.Ordering.TheVariants.{Less, Equal, Greater}
 use Rattle.std.specs.declared.cmp.Ordering.{Ordering}
 use Rattle.std.specs.Ordering.{nat_cmp, is_lt, is_eq, eq_by_cmp}
-use Rattle.std.specs.Cmp.{nat_cmp_total}
+use Rattle.std.specs.Cmp.{nat_cmp_total, tied_itself}
 use Rattle.std.specs.Cmp.Lexicographic.{nat_list_cmp_total}
-use Rattle.std.specs.Cmp.{tied_itself}
 use Rattle.std.specs.FinMap.Entries.{find, below_all, is_sorted}
 use Rattle.std.specs.FinMap as fin
 use Rattle.std.specs.FinMap.{IsAntisymmetric, nat_cmp-IsAntisymmetric, slice_cmp-IsAntisymmetric}
 use Rattle.jam_codec.specs.Format.{Format, any, both, natural_where, fixed_where, bytes_where}
 use Rattle.jam_codec.specs.Lists.{blob_where, blob_after, blob_by_after, number_after, hash_and_number_cmp, hash_and_number_after, up_to}
 use Rattle.jam_codec.specs.Laws.{IsFormat}
-use Rattle.jam_codec.proofs.FormatLaws.{natural_laws, fixed_laws, bytes_laws, same_laws, both_laws, by_laws, blob_laws, blob_after_laws, blob_by_after_laws, number_after_laws, hash_and_number_laws, list_laws, fin_map_laws, blob_rises, blob_by_rises, number_rises, hash_and_number_rises, hash_and_number_total, nothing_laws}
-use Rattle.jam_fields.proofs.Sorted.{rows_sorted, fit_ascend, first_of, second_of, less_of}
+use Rattle.jam_codec.specs.FormatLaws.{natural_laws, fixed_laws, bytes_laws, same_laws, both_laws, by_laws, blob_laws, blob_after_laws, blob_by_after_laws, number_after_laws, hash_and_number_laws, list_laws, fin_map_laws, blob_rises, blob_by_rises, number_rises, hash_and_number_rises, hash_and_number_total, nothing_laws, left_holds, right_holds, holds_less}
+use Rattle.jam_fields.specs.SortedLaws.{rows_sorted, fit_ascend}
 use Rattle.blake2b_core.specs.Blake2b.{digest}
 use Rattle.jam_accounts.specs.Accounts.{Preimages, bytes_cmp, StandUnderDigests, is_version}
 use Rattle.jam_accounts.specs.Fields.{account_from, account_fields, state_from, state_fields}
@@ -71,8 +69,8 @@ under_stand xs h q v e = found_under q xs v (sym (fin.get-from_sorted bytes_cmp 
 none_below : (q : List ℕ) (es : List (List ℕ × List ℕ)) → T (below_all bytes_cmp q es) → find bytes_cmp q es ≡ None
 none_below q [] h = refl
 none_below q (e ∷ es) h =
-    let less : bytes_cmp q e.0 ≡ Less = less_of (bytes_cmp q e.0) (first_of (is_lt (bytes_cmp q e.0)) (below_all bytes_cmp q es) h) in
-    ap (λ o. cond (is_eq o) (Some e.1) (find bytes_cmp q es)) less ∙ none_below q es (second_of (is_lt (bytes_cmp q e.0)) (below_all bytes_cmp q es) h)
+    let less : bytes_cmp q e.0 ≡ Less = holds_less (bytes_cmp q e.0) (left_holds (is_lt (bytes_cmp q e.0)) (below_all bytes_cmp q es) h) in
+    ap (λ o. cond (is_eq o) (Some e.1) (find bytes_cmp q es)) less ∙ none_below q es (right_holds (is_lt (bytes_cmp q e.0)) (below_all bytes_cmp q es) h)
 
 found_apart : (e : List ℕ × List ℕ) (es : List (List ℕ × List ℕ)) → T (below_all bytes_cmp e.0 es) → (q v : List ℕ) → find bytes_cmp q es ≡ Some v → (b : Bool) → eq_by_cmp bytes_cmp q e.0 ≡ b → find bytes_cmp q (e ∷ es) ≡ Some v
 found_apart e es h q v at true at_first =
@@ -87,9 +85,9 @@ found_later e es h q v at = found_apart e es h q v at (eq_by_cmp bytes_cmp q e.0
 under_again : (es : List (List ℕ × List ℕ)) → T (is_sorted bytes_cmp es) → ((q v : List ℕ) → find bytes_cmp q es ≡ Some v → q ≡ digest v) → map under_digest (map (λ (e : List ℕ × List ℕ). e.1) es) ≡ es
 under_again [] h stand = refl
 under_again (e ∷ es) h stand =
-    let below : T (below_all bytes_cmp e.0 es) = first_of (below_all bytes_cmp e.0 es) (is_sorted bytes_cmp es) h in
+    let below : T (below_all bytes_cmp e.0 es) = left_holds (below_all bytes_cmp e.0 es) (is_sorted bytes_cmp es) h in
     let first : e.0 ≡ digest e.1 = stand e.0 e.1 (ap (λ o. cond (is_eq o) (Some e.1) (find bytes_cmp e.0 es)) (tied_itself nat_list_cmp_total e.0)) in
-    let rest : map under_digest (map (λ (p : List ℕ × List ℕ). p.1) es) ≡ es = under_again es (second_of (below_all bytes_cmp e.0 es) (is_sorted bytes_cmp es) h) (λ q v at. stand q v (found_later e es below q v at)) in
+    let rest : map under_digest (map (λ (p : List ℕ × List ℕ). p.1) es) ≡ es = under_again es (right_holds (below_all bytes_cmp e.0 es) (is_sorted bytes_cmp es) h) (λ q v at. stand q v (found_later e es below q v at)) in
     λ i. (sym first i, e.1) ∷ rest i
 
 preimages_again : (m : Preimages) → StandUnderDigests m → fin.from_sorted {R = bytes_cmp} (map under_digest (fin.values m)) ≡ m

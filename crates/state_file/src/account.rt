@@ -4,10 +4,10 @@ ghost use Rattle.std.specs.Ordering.{nat_cmp};
 ghost use Rattle.std.specs.FinMap as fin;
 ghost use Rattle.std.specs.FinMap.Entries.{is_sorted};
 ghost use Rattle.jam_codec.specs.Format.{any, fixed_where, items_spelled, items_fit};
-ghost use Rattle.jam_codec.specs.Lists.{number_after, entry_of};
+ghost use Rattle.jam_codec.specs.Lists.{number_after, map_entry};
 ghost use Rattle.jam_codec.specs.Reading.{Reads};
 ghost use Rattle.jam_codec.specs.Refusal.{place_of};
-ghost use Rattle.jam_codec.specs.Spelling.{little_endian};
+ghost use Rattle.byte_numbers.specs.Numbers.{little_endian};
 ghost use Rattle.jam_accounts.specs.Accounts.{is_version, IsOfVersion, AreOfVersion};
 ghost use Rattle.state_file.specs.StateFile.{not_in_first, account_format, accounts_format};
 ghost use Rattle.state_file.specs.StateLaws.{account_laws};
@@ -203,8 +203,8 @@ fn write_entry(
 
 fn write_entries(accounts: &Accounts, version: u32, out: &mut Vec<u8>) -> Result<(), AllocError>
     requires { AreOfVersion version accounts.now }
-    ensures ok { OnOk result (out.new.items ≡ out.old.items ++ items_spelled (entry_of (number_after 4) (account_format version)) None (fin.entries accounts.now)) }
-    ensures fits { OnOk result (items_fit (entry_of (number_after 4) (account_format version)) (length (fin.entries accounts.now)) None (fin.entries accounts.now)) }
+    ensures ok { OnOk result (out.new.items ≡ out.old.items ++ items_spelled (map_entry (number_after 4) (account_format version)) None (fin.entries accounts.now)) }
+    ensures fits { OnOk result (items_fit (map_entry (number_after 4) (account_format version)) (length (fin.entries accounts.now)) None (fin.entries accounts.now)) }
 {
     for (id, account) in accounts.entries() {
         write_entry(id, account, version, out)?;

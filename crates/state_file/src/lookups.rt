@@ -4,8 +4,8 @@ ghost use Rattle.std.specs.Option.{option_copied};
 ghost use Rattle.std.specs.FinMap as fin;
 ghost use Rattle.std.specs.FinMap.Entries.{is_sorted};
 ghost use Rattle.jam_codec.specs.Format.{items_spelled, items_fit};
-ghost use Rattle.jam_codec.specs.Lists.{hash_and_number_cmp, hash_and_number_after, entry_of, follows, is_hash_from};
-ghost use Rattle.jam_codec.proofs.FormatLaws.{hash_and_number_laws};
+ghost use Rattle.jam_codec.specs.Lists.{hash_and_number_cmp, hash_and_number_after, map_entry, follows, is_hash_from};
+ghost use Rattle.jam_codec.specs.FormatLaws.{hash_and_number_laws};
 ghost use Rattle.jam_codec.specs.Reading.{Reads};
 ghost use Rattle.jam_codec.specs.Refusal.{place_of};
 ghost use Rattle.jam_accounts.specs.Footprint.{lookups_octets};
@@ -156,7 +156,7 @@ fn write_history(
     history: History,
     out: &mut Vec<u8>,
 ) -> Result<(), AllocError>
-    ensures ok { OnOk result ((last : Option ((List ℕ × ℕ) × List ℕ)) → out.new.items ≡ out.old.items ++ (entry_of hash_and_number_after history_format last).spell ((hash.now, number), history)) }
+    ensures ok { OnOk result ((last : Option ((List ℕ × ℕ) × List ℕ)) → out.new.items ≡ out.old.items ++ (map_entry hash_and_number_after history_format last).spell ((hash.now, number), history)) }
     ensures hash { length hash.now ≡ 32 }
     ensures number { number < 2 ^ 32 }
     ensures fits { OnOk result (history_format.Fits history) }
@@ -167,8 +167,8 @@ fn write_history(
 }
 
 fn write_entries(lookups: &Lookups, out: &mut Vec<u8>) -> Result<(), AllocError>
-    ensures ok { OnOk result (out.new.items ≡ out.old.items ++ items_spelled (entry_of hash_and_number_after history_format) None (fin.entries lookups.now)) }
-    ensures fits { OnOk result (items_fit (entry_of hash_and_number_after history_format) (length (fin.entries lookups.now)) None (fin.entries lookups.now)) }
+    ensures ok { OnOk result (out.new.items ≡ out.old.items ++ items_spelled (map_entry hash_and_number_after history_format) None (fin.entries lookups.now)) }
+    ensures fits { OnOk result (items_fit (map_entry hash_and_number_after history_format) (length (fin.entries lookups.now)) None (fin.entries lookups.now)) }
 {
     for (hash, length, history) in lookups.entries() {
         write_history(hash, length, history, out)?;

@@ -8,7 +8,7 @@ ghost use Rattle.std.specs.FinMap.Entries.{is_sorted};
 ghost use Rattle.blake2b_core.specs.Blake2b.{digest};
 ghost use Rattle.jam_codec.specs.Format.{items_spelled, items_fit};
 ghost use Rattle.jam_codec.specs.Lists.{blob_by_after, follows};
-ghost use Rattle.jam_codec.proofs.FormatLaws.{blob_by_after_laws};
+ghost use Rattle.jam_codec.specs.FormatLaws.{blob_by_after_laws};
 ghost use Rattle.jam_codec.specs.Spelling.{natural};
 ghost use Rattle.jam_codec.specs.Reading.{Reads};
 ghost use Rattle.jam_codec.specs.Refusal.{place_of};

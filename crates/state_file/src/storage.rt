@@ -3,7 +3,7 @@ ghost use Rattle.std.specs.Prelude.{◌≡◌, ◌++◌, ◌<◌, ◌^◌, OnOk,
 ghost use Rattle.std.specs.FinMap as fin;
 ghost use Rattle.std.specs.FinMap.Entries.{is_sorted};
 ghost use Rattle.jam_codec.specs.Format.{any, items_spelled, items_fit};
-ghost use Rattle.jam_codec.specs.Lists.{blob_where, blob_after, entry_of};
+ghost use Rattle.jam_codec.specs.Lists.{blob_where, blob_after, map_entry};
 ghost use Rattle.jam_codec.specs.Spelling.{natural};
 ghost use Rattle.jam_codec.specs.Reading.{Reads};
 ghost use Rattle.jam_codec.specs.Refusal.{place_of};
@@ -35,7 +35,6 @@ pub fn read_storage(alloc: Global, cursor: &mut Cursor<'_>) -> Result<Storage, F
     ensures exact { Reads place_of (λ x. x) result cursor.new (storage_format.read cursor.old) }
     ensures small { IfOk result (λ storage. storage_octets storage < 2 ^ 99) }
 {
-    let _place = cursor.place();
     let entries = read_rows(alloc, cursor)?;
     Ok(storage_of(alloc, entries)?)
 }
@@ -50,8 +49,8 @@ fn write_value(key: &[u8], value: &[u8], out: &mut Vec<u8>) -> Result<(), AllocE
 }
 
 fn write_entries(storage: &Storage, out: &mut Vec<u8>) -> Result<(), AllocError>
-    ensures ok { OnOk result (out.new.items ≡ out.old.items ++ items_spelled (entry_of blob_after (blob_where any)) None (fin.entries storage.now)) }
-    ensures fits { OnOk result (items_fit (entry_of blob_after (blob_where any)) (length (fin.entries storage.now)) None (fin.entries storage.now)) }
+    ensures ok { OnOk result (out.new.items ≡ out.old.items ++ items_spelled (map_entry blob_after (blob_where any)) None (fin.entries storage.now)) }
+    ensures fits { OnOk result (items_fit (map_entry blob_after (blob_where any)) (length (fin.entries storage.now)) None (fin.entries storage.now)) }
 {
     for (key, value) in storage.entries() {
         write_value(key, value, out)?;

@@ -3,7 +3,7 @@ use Rattle.std.proofs.lemmas.Result.{on_ok_weaker}
 use Rattle.std.proofs.lemmas.Bool.{and_parts}
 use Rattle.std.specs.Prelude.{nat_le}
 use Rattle.std.specs.List.{list_all}
-use Rattle.jam_codec.specs.Spelling.{little_endian}
+use Rattle.byte_numbers.specs.Numbers.{little_endian}
 use Rattle.jam_codec.specs.Format.{any, fixed_where, items_spelled, items_fit}
 use Rattle.batch_file.proofs.CostLists.{cost, costs_spelled, costs_fit, added}
 use Rattle.batch_file.proofs.costs.write_schedule.Goals as goal

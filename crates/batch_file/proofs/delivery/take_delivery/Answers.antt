@@ -1,4 +1,4 @@
-use Rattle.jam_fields.proofs.Files.{none_here}
+use Rattle.jam_fields.specs.AnswerLaws.{none_here}
 use Rattle.batch_file.specs.BatchFile.{delivery_format}
 use Rattle.batch_file.specs.BatchLaws.{delivery_laws}
 use Rattle.batch_file.proofs.delivery.take_delivery.Goals as goal

@@ -1,6 +1,6 @@
 use Rattle.std.proofs.Common.{ℕ, ◌<◌, List, [], ◌++◌, ap, refl, sym, ◌∙◌, inl, inr, Option, Some, None, IsSome, length, append-nil}
 use Rattle.jam_codec.specs.Lists.{behind_one, some_spelled, tail_fits}
-use Rattle.jam_codec.proofs.FormatLaws.{one_spelling_of_file, tail_prefix, behind_one_laws, behind_one_some}
+use Rattle.jam_codec.specs.FormatLaws.{one_spelling_of_file, tail_prefix, behind_one_laws, behind_one_some}
 use Rattle.gas_ledger.specs.Schedule.{Schedule}
 use Rattle.batch_file.specs.BatchFile.{batch_format, unscheduled_format, schedule_format, scheduled, unscheduled}
 use Rattle.batch_file.specs.BatchLaws.{batch_laws, unscheduled_laws, schedule_laws}

@@ -1,4 +1,4 @@
-use Rattle.jam_fields.proofs.Files.{none_here}
+use Rattle.jam_fields.specs.AnswerLaws.{none_here}
 use Rattle.batch_file.specs.BatchFile.{report_format}
 use Rattle.batch_file.specs.BatchLaws.{report_laws}
 use Rattle.batch_file.proofs.report.take_report.Goals as goal

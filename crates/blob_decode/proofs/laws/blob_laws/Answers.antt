@@ -1,4 +1,4 @@
-use Rattle.jam_codec.proofs.Formats.{one_spelling, no_prefix}
+use Rattle.jam_codec.specs.FormatLaws.{one_spelling, no_prefix}
 use Rattle.blob_decode.specs.Program.{program_blob}
 use Rattle.blob_decode.specs.BlobLaws.{program_blob_laws}
 use Rattle.blob_decode.proofs.laws.blob_laws.Goals as goal

@@ -1,4 +1,4 @@
-use Rattle.gas_ledger.specs.ScheduleLaws.{form_cost-paid, call_cost-paid}
+use Rattle.gas_ledger.specs.CostLaws.{form_cost-paid, call_cost-paid}
 use Rattle.gas_ledger.proofs.laws.schedule_laws.Goals as goal
 
 pub returns-clause-form : goal.returns-clause-form

@@ -1,4 +1,4 @@
-use Rattle.jam_codec.proofs.Fields.{natural_laws, fixed_laws, bytes_laws, bits_laws, numbers_laws}
+use Rattle.jam_codec.specs.FieldLaws.{natural_laws, fixed_laws, bytes_laws, bits_laws, numbers_laws}
 use Rattle.jam_codec.proofs.laws.field_laws.Goals as goal
 
 pub returns-clause-natural : goal.returns-clause-natural

@@ -1,4 +1,4 @@
-use Rattle.jam_codec.proofs.Lists.{blob_laws, hash_and_number_laws, option_tag_laws}
+use Rattle.jam_codec.specs.ListLaws.{blob_laws, hash_and_number_laws, option_tag_laws}
 use Rattle.jam_codec.proofs.laws.joined_laws.Goals as goal
 
 pub returns-clause-blob : goal.returns-clause-blob

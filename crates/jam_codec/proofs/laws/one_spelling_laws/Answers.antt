@@ -1,6 +1,6 @@
 use Rattle.jam_codec.specs.Format.{natural_where, fixed_where, bytes_where, bits_where, numbers_of}
-use Rattle.jam_codec.proofs.Formats.{one_spelling, no_prefix}
-use Rattle.jam_codec.proofs.Fields.{natural_laws, fixed_laws, bytes_laws, bits_laws, numbers_laws}
+use Rattle.jam_codec.specs.JoinLaws.{one_spelling, no_prefix}
+use Rattle.jam_codec.specs.FieldLaws.{natural_laws, fixed_laws, bytes_laws, bits_laws, numbers_laws}
 use Rattle.jam_codec.proofs.laws.one_spelling_laws.Goals as goal
 
 pub returns-clause-natural : goal.returns-clause-natural

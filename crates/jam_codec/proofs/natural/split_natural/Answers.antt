@@ -1,6 +1,6 @@
 use Rattle.std.proofs.Common.{arith, rules, ◌≡◌, Some}
 use Rattle.jam_codec.specs.Reading.{natural_of}
-use Rattle.jam_codec.proofs.Naturals.{natural_of-found}
+use Rattle.jam_codec.specs.NaturalLaws.{natural_of-found}
 use Rattle.jam_codec.proofs.natural.split_natural.Goals as goal
 
 pub returns-clause-found : goal.returns-clause-found

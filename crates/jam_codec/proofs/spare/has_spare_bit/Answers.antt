@@ -1,7 +1,7 @@
 use Rattle.std.proofs.Common.{arith, ◌≡◌, ◌/◌, ◌%◌, ◌^◌, ◌-◌, ◌≤◌, length, nat_lt, Some, false, slice_get, sym, ap, ◌∙◌, refl}
 use Rattle.std.proofs.lemmas.Bool.{le-ltb}
 use Rattle.std.specs.Option.{option_copied}
-use Rattle.jam_codec.proofs.Bits.{Spare, Spare-last, Spare-whole}
+use Rattle.jam_codec.proofs.SpareBits.{Spare, Spare-last, Spare-whole}
 use Rattle.jam_codec.proofs.spare.has_spare_bit.Goals as goal
 
 pub returns-then-used-gt0 : goal.returns-then-used-gt0

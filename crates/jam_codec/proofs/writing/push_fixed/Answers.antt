@@ -1,6 +1,7 @@
 use Rattle.std.proofs.Common.{◌≡◌, ◌∙◌, ap, take, ◌++◌, List, ℕ}
-use Rattle.jam_codec.specs.Spelling.{little_endian}
-use Rattle.jam_codec.proofs.Spelled.{bytes-little_endian, take-little_endian, on_ok}
+use Rattle.byte_numbers.specs.Numbers.{little_endian}
+use Rattle.byte_numbers.specs.NumberLaws.{bytes-little_endian, take-little_endian}
+use Rattle.jam_codec.proofs.Spelled.{on_ok}
 use Rattle.jam_codec.proofs.writing.push_fixed.Goals as goal
 
 pub returns-clause-ok : goal.returns-clause-ok

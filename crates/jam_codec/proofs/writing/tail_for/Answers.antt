@@ -1,5 +1,5 @@
 use Rattle.std.proofs.Common.{arith, sym}
-use Rattle.jam_codec.proofs.Spelled.{tail_length-next}
+use Rattle.jam_codec.specs.NaturalLaws.{tail_length-next}
 use Rattle.jam_codec.proofs.writing.tail_for.Goals as goal
 
 pub returns-else-least_natural-x : goal.returns-else-least_natural-x

@@ -2,7 +2,7 @@ use Rattle.std.proofs.Common.{arith, ◌≡◌, ◌-◌, ◌+◌, suc, None}
 use Rattle.std.proofs.lemmas.Result.{err_from_is_err_and}
 use Rattle.jam_codec.specs.Format.{items_at}
 use Rattle.jam_codec.specs.Refusal.{place_of}
-use Rattle.jam_fields.proofs.Items.{none_read, one_read, one_refused, all_read}
+use Rattle.jam_fields.specs.ItemLaws.{none_read, one_read, one_refused, all_read}
 use Rattle.jam_fields.proofs.list.read_items.Goals as goal
 
 pub loop-init : goal.loop-init

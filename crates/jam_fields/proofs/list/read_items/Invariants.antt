@@ -1,6 +1,6 @@
 use Rattle.std.proofs.Common.{None, ◌-◌}
 use Rattle.jam_codec.specs.Format.{items_at}
-use Rattle.jam_fields.proofs.Items.{Ahead}
+use Rattle.jam_fields.specs.ItemLaws.{Ahead}
 use Rattle.jam_fields.proofs.list.read_items.Given as goal
 
 abbrev pub invariant-loop : goal.invariant-loop

@@ -1,5 +1,5 @@
 use Rattle.std.proofs.Common.{arith, ◌≡◌, None, length}
-use Rattle.jam_fields.proofs.Sorted.{items_length}
+use Rattle.jam_fields.specs.SortedLaws.{items_length}
 use Rattle.jam_fields.proofs.list.read_list.Goals as goal
 
 pub returns-clause-within : goal.returns-clause-within

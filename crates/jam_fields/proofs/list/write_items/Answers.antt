@@ -1,6 +1,6 @@
 use Rattle.std.proofs.Common.{◌≡◌, ◌+◌, ◌∷◌, drop, subst, rules}
 use Rattle.std.specs.Io.{StartsWith}
-use Rattle.jam_fields.proofs.Items.{AddedWhole, none_added_whole, one_added_whole, kept_whole, drop_is}
+use Rattle.jam_fields.specs.ItemLaws.{AddedWhole, none_added_whole, one_added_whole, kept_whole, drop_is}
 use Rattle.jam_fields.proofs.list.write_items.Goals as goal
 
 pub loop-item-init : goal.loop-item-init

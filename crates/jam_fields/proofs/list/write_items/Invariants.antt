@@ -1,5 +1,5 @@
 use Rattle.std.proofs.Common.{drop}
-use Rattle.jam_fields.proofs.Items.{AddedWhole}
+use Rattle.jam_fields.specs.ItemLaws.{AddedWhole}
 use Rattle.jam_fields.proofs.list.write_items.Given as goal
 
 abbrev pub invariant-loop-item : goal.invariant-loop-item

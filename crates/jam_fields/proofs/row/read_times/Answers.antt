@@ -4,7 +4,7 @@ use Rattle.std.proofs.lemmas.Result.{err_from_is_err_and}
 use Rattle.jam_codec.specs.Format.{items_at}
 use Rattle.jam_codec.specs.Reading.{Refuses}
 use Rattle.jam_codec.specs.Refusal.{place_of}
-use Rattle.jam_fields.proofs.Items.{none_read, one_read, one_refused, all_read, read_after_last}
+use Rattle.jam_fields.specs.ItemLaws.{none_read, one_read, one_refused, all_read, read_after_last}
 use Rattle.jam_fields.proofs.row.read_times.Goals as goal
 
 pub loop-init : goal.loop-init

@@ -2,7 +2,7 @@ use Rattle.std.proofs.Common.{arith}
 use Rattle.std.specs.Ordering.{nat_cmp}
 use Rattle.std.specs.Cmp.{nat_cmp_total}
 use Rattle.jam_codec.specs.Lists.{number_after}
-use Rattle.jam_fields.proofs.Sorted.{map_sorted, number_above}
+use Rattle.jam_fields.specs.SortedLaws.{map_sorted, number_above}
 use Rattle.state_file.specs.StateFile.{account_format}
 use Rattle.state_file.proofs.account.read_entries.Goals as goal
 

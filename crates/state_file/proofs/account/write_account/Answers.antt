@@ -1,6 +1,6 @@
 use Rattle.std.proofs.Common.{◌≡◌, ◌++◌, ℕ, List, ap, ◌∙◌, subst, OnOk}
 use Rattle.jam_codec.specs.Format.{any, fixed_where}
-use Rattle.jam_codec.specs.Spelling.{little_endian}
+use Rattle.byte_numbers.specs.Numbers.{little_endian}
 use Rattle.jam_accounts.specs.Accounts.{Account}
 use Rattle.state_file.specs.StateFile.{not_in_first, storage_format, preimages_format, lookups_format, account_format}
 use Rattle.state_file.proofs.Maps.{on_ok-and, behind}

@@ -1,5 +1,6 @@
 use Rattle.std.proofs.Common.{◌≡◌, ◌++◌, List, ℕ, ap, ◌∙◌, subst, OnOk, refl, arith}
-use Rattle.jam_codec.specs.Spelling.{natural, little_endian}
+use Rattle.jam_codec.specs.Spelling.{natural}
+use Rattle.byte_numbers.specs.Numbers.{little_endian}
 use Rattle.jam_accounts.specs.Accounts.{State}
 use Rattle.state_file.specs.StateFile.{accounts_format, state_format}
 use Rattle.state_file.proofs.Maps.{on_ok-and, behind}

@@ -1,4 +1,4 @@
-use Rattle.jam_codec.proofs.FormatLaws.{one_spelling, no_prefix}
+use Rattle.jam_codec.specs.FormatLaws.{one_spelling, no_prefix}
 use Rattle.state_file.specs.StateFile.{state_format}
 use Rattle.state_file.specs.StateLaws.{state_laws}
 use Rattle.state_file.proofs.laws.state_laws.Goals as goal

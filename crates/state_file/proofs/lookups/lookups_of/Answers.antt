@@ -1,6 +1,6 @@
 use Rattle.std.proofs.Common.{ap, ◌∙◌, ◌≡◌, ℕ, List, arith}
 use Rattle.std.specs.FinMap as fin
-use Rattle.jam_codec.proofs.FormatLaws.{hash_and_number_total}
+use Rattle.jam_codec.specs.FormatLaws.{hash_and_number_total}
 use Rattle.state_file.proofs.Maps.{none_put, one_put, all_put}
 use Rattle.state_file.proofs.Octets.{none_small, one_small, all_small}
 use Rattle.state_file.proofs.lookups.lookups_of.Goals as goal

@@ -1,6 +1,6 @@
 use Rattle.jam_codec.specs.Lists.{hash_and_number_cmp, hash_and_number_after}
-use Rattle.jam_codec.proofs.FormatLaws.{hash_and_number_total}
-use Rattle.jam_fields.proofs.Sorted.{map_sorted, hash_and_number_above}
+use Rattle.jam_codec.specs.FormatLaws.{hash_and_number_total}
+use Rattle.jam_fields.specs.SortedLaws.{map_sorted, hash_and_number_above}
 use Rattle.state_file.specs.StateFile.{history_format}
 use Rattle.state_file.proofs.lookups.read_lookups.Goals as goal
 

@@ -3,14 +3,14 @@ use Rattle.std.specs.FinMap as fin
 use Rattle.state_file.specs.StateFile.{history_format}
 use Rattle.state_file.proofs.Maps.{on_ok-and, counted, count_fits}
 use Rattle.jam_codec.specs.Format.{items_spelled}
-use Rattle.jam_codec.specs.Lists.{hash_and_number_after, entry_of}
+use Rattle.jam_codec.specs.Lists.{hash_and_number_after, map_entry}
 use Rattle.state_file.proofs.lookups.write_lookups.Goals as goal
 
 pub returns-clause-ok : goal.returns-clause-ok
 returns-clause-ok c =
     on_ok-and c.write_entries.result
-    (λ written. written ∙ ap (λ (bytes : List ℕ). bytes ++ items_spelled (entry_of hash_and_number_after history_format) None (fin.entries c.args.lookups.now)) c.in_ok-push_natural.ensures.ok
-    ∙ counted c.args.out.now.items c.len.result (length (fin.entries c.args.lookups.now)) (items_spelled (entry_of hash_and_number_after history_format) None (fin.entries c.args.lookups.now)) (c.len.ensures.count ∙ fin.len-entries c.args.lookups.now))
+    (λ written. written ∙ ap (λ (bytes : List ℕ). bytes ++ items_spelled (map_entry hash_and_number_after history_format) None (fin.entries c.args.lookups.now)) c.in_ok-push_natural.ensures.ok
+    ∙ counted c.args.out.now.items c.len.result (length (fin.entries c.args.lookups.now)) (items_spelled (map_entry hash_and_number_after history_format) None (fin.entries c.args.lookups.now)) (c.len.ensures.count ∙ fin.len-entries c.args.lookups.now))
     c.write_entries.ensures.ok
 
 pub returns-clause-fits : goal.returns-clause-fits

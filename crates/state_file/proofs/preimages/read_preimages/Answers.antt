@@ -2,7 +2,7 @@ use Rattle.std.specs.Cmp.Lexicographic.{nat_list_cmp_total}
 use Rattle.blake2b_core.specs.Blake2b.{digest}
 use Rattle.jam_codec.specs.Format.{any}
 use Rattle.jam_codec.specs.Lists.{blob_by_after}
-use Rattle.jam_fields.proofs.Sorted.{list_sorted, blob_by_above}
+use Rattle.jam_fields.specs.SortedLaws.{list_sorted, blob_by_above}
 use Rattle.jam_accounts.specs.Accounts.{bytes_cmp}
 use Rattle.state_file.specs.StateFile.{under_digest}
 use Rattle.state_file.proofs.preimages.read_preimages.Goals as goal

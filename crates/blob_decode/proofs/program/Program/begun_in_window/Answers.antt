@@ -1,5 +1,5 @@
 use Rattle.std.proofs.Common.{◌+◌, ◌-◌, ◌/◌, ◌%◌, ◌^◌, ◌<◌, ℕ, List, length, take, drop, ap, sym, subst, ◌∙◌, arith}
-use Rattle.jam_codec.specs.Spelling.{little_number}
+use Rattle.byte_numbers.specs.Numbers.{little_number}
 use Rattle.blob_decode.specs.Program.{Program, mask_bit}
 use Rattle.blob_decode.proofs.Windows.{LastSet-below, begun-window, begun-nowhere}
 use Rattle.blob_decode.proofs.program.Program.begun_in_window.Goals as goal

@@ -1,6 +1,6 @@
 use Rattle.std.proofs.Common.{ap, sym, ◌∙◌, length}
-use Rattle.jam_codec.specs.Spelling.{little_number}
-use Rattle.jam_codec.proofs.Bits.{length-binary_digits}
+use Rattle.byte_numbers.specs.Numbers.{little_number}
+use Rattle.jam_codec.specs.BitLaws.{length-binary_digits}
 use Rattle.blob_decode.specs.Program.{Program}
 use Rattle.blob_decode.proofs.program.Program.code.Goals as goal
 

@@ -1,7 +1,7 @@
 use Rattle.std.proofs.Common.{◌≡◌, Ok, Err, ◌∙◌, ap, arith, refl}
 use Rattle.std.proofs.lemmas.Result.{err_from_is_err_and}
 use Rattle.jam_codec.specs.Format.{whole}
-use Rattle.jam_codec.proofs.Whole.{whole-found, whole-again, whole-refused}
+use Rattle.jam_codec.specs.FormatLaws.{whole-found, whole-again, whole-refused}
 use Rattle.blob_decode.specs.Program.{Program, program_blob}
 use Rattle.blob_decode.specs.declared.program.ProgramRefusal.{ProgramRefusal}
 use Rattle.blob_decode.specs.declared.program.ProgramRefusal.TheVariants.{NotProgram}

@@ -1,5 +1,5 @@
 use Rattle.std.proofs.Common.{ap, sym, ◌∙◌, arith, slice_get}
-use Rattle.jam_codec.proofs.Numbers.{numbers-past}
+use Rattle.byte_numbers.specs.NumberLaws.{numbers-past}
 use Rattle.blob_decode.specs.Program.{Program}
 use Rattle.blob_decode.proofs.KeptLaws.{jump-kept}
 use Rattle.blob_decode.proofs.program.Program.jump_at.Goals as goal

@@ -1,5 +1,5 @@
 use Rattle.std.proofs.Common.{ap, sym, ◌∙◌, length}
-use Rattle.jam_codec.proofs.Numbers.{length-numbers}
+use Rattle.byte_numbers.specs.NumberLaws.{length-numbers}
 use Rattle.blob_decode.specs.Program.{Program}
 use Rattle.blob_decode.proofs.program.Program.jump_count.Goals as goal
 

@@ -1,5 +1,5 @@
 use Rattle.std.proofs.Common.{◌≡◌, ◌/◌, ◌%◌, ◌^◌, ◌<◌, ℕ, List, length, take, drop, ap, sym, subst, ◌∙◌}
-use Rattle.jam_codec.specs.Spelling.{little_number}
+use Rattle.byte_numbers.specs.Numbers.{little_number}
 use Rattle.blob_decode.specs.Program.{Program, mask_bit, skip}
 use Rattle.blob_decode.proofs.Windows.{own-mark, next-mark}
 use Rattle.blob_decode.proofs.program.Program.marks_from.Goals as goal

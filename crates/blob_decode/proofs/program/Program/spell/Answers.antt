@@ -1,7 +1,7 @@
 use Rattle.std.proofs.Common.{◌≡◌, ℕ, ◌++◌, List, ap, sym, subst, ◌∙◌, arith, length, refl}
 use Rattle.jam_codec.specs.Format.{Spells}
-use Rattle.jam_codec.specs.Spelling.{natural, little_endian}
-use Rattle.jam_codec.specs.Laws.{AreBytes}
+use Rattle.jam_codec.specs.Spelling.{natural}
+use Rattle.byte_numbers.specs.Numbers.{little_endian, AreBytes}
 use Rattle.blob_decode.specs.Program.{Program, program_blob}
 use Rattle.blob_decode.specs.Kept.{program_of}
 use Rattle.blob_decode.proofs.Spelled.{Spells-kept, added}

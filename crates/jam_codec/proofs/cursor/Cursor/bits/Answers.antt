@@ -1,7 +1,8 @@
 use Rattle.std.proofs.Common.{arith, ◌≡◌, ◌∙◌, ap, length, ℕ, take}
-use Rattle.jam_codec.specs.Spelling.{bytes_for, little_number}
+use Rattle.jam_codec.specs.Spelling.{bytes_for}
+use Rattle.byte_numbers.specs.Numbers.{little_number}
 use Rattle.jam_codec.specs.Reading.{Reading}
-use Rattle.jam_codec.proofs.Bits.{Front, packed-Front}
+use Rattle.jam_codec.specs.BitLaws.{Front, packed-Front}
 use Rattle.jam_codec.proofs.cursor.Cursor.bits.Goals as goal
 
 pub returns-then-remaining-count-clause-malformed : goal.returns-then-remaining-count-clause-malformed

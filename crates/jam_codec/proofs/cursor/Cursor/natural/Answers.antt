@@ -1,6 +1,6 @@
 use Rattle.std.proofs.Common.{◌≡◌, ◌∙◌, ap}
 use Rattle.jam_codec.specs.Reading.{Reading}
-use Rattle.jam_codec.proofs.Naturals.{natural-none}
+use Rattle.jam_codec.specs.NaturalLaws.{natural-none}
 use Rattle.jam_codec.proofs.cursor.Cursor.natural.Goals as goal
 
 pub returns-in-None-clause-malformed : goal.returns-in-None-clause-malformed

@@ -1,7 +1,7 @@
 -- Rows whose keys ascend, and the finite maps that hold them.
-use Rattle.std.proofs.Common.{◌≡◌, ℕ, zero, suc, Bool, true, false, ◌&&◌, List, [], ◌∷◌, ◌++◌, map, length, ap, sym, ◌∙◌, refl, subst, Ok, Result, Option, Some, None, option_map, Ordering, IfSome}
+use Rattle.std.proofs.Common.{◌≡◌, ℕ, zero, suc, Bool, true, List, [], ◌∷◌, ◌++◌, map, length, ap, sym, ◌∙◌, refl, subst, Ok, Result, Option, Some, None, option_map, Ordering, IfSome}
 use Rattle.std.specs.Prelude.{T}
-use Rattle.std.specs.declared.cmp.Ordering.TheVariants.{Less, Equal, Greater}
+use Rattle.std.specs.declared.cmp.Ordering.TheVariants.{Less, Greater}
 use Rattle.std.specs.Ordering.{nat_cmp, is_lt, ordering_reverse}
 use Rattle.std.specs.Cmp.{IsTotalOrder}
 use Rattle.std.specs.Cmp.Lexicographic.{slice_cmp}
@@ -9,34 +9,10 @@ use Rattle.std.specs.FinMap as fin
 use Rattle.std.specs.FinMap.Entries.{put, below_all, is_sorted}
 use Rattle.jam_codec.specs.Reading.{Reading, ◌>>=◌, natural_at, bytes_at, fixed_at}
 use Rattle.jam_codec.specs.Format.{Format, any, both, natural_where, fixed_where, bytes_where, items_at, items_fit, times}
-use Rattle.jam_codec.specs.Lists.{blob_where, list_of, map_of, entry_of, follows, blob_after, blob_by_after, number_after, hash_and_number_cmp, is_hash_from, hash_and_number_after}
-use Rattle.jam_codec.proofs.Formats.{chain_ok, ok_parts, passing_ok}
-use Rattle.jam_fields.specs.Rows.{last_of}
-use Rattle.jam_fields.proofs.Items.{last_of-cons}
-
--- the two facts of a conjunction
-all_of : (a b : Bool) → T a → T b → T (a && b)
-all_of true b p q = q
-all_of false b p q = absurd p
-
-pub first_of : (a b : Bool) → T (a && b) → T a
-first_of true b p = tt
-first_of false b p = absurd p
-
-pub second_of : (a b : Bool) → T (a && b) → T b
-second_of true b p = p
-second_of false b p = absurd p
-
-pub less_of : (order : Ordering) → T (is_lt order) → order ≡ Less
-less_of Less h = refl
-less_of Equal h = absurd h
-less_of Greater h = absurd h
-
-of_less : (order : Ordering) → order ≡ Less → T (is_lt order)
-of_less order e = subst (λ (o : Ordering). T (is_lt o)) (sym e) tt
-
-from_test : (order : Ordering) → is_lt order ≡ true → order ≡ Less
-from_test order e = less_of order (subst T (sym e) tt)
+use Rattle.jam_codec.specs.Lists.{blob_where, list_of, map_of, map_entry, follows, blob_after, blob_by_after, number_after, hash_and_number_cmp, is_hash_from, hash_and_number_after}
+use Rattle.jam_codec.specs.FormatLaws.{chain_ok, ok_parts, passing_ok, less_from, and_holds, left_holds, right_holds, less_holds, holds_less, below_lower}
+use Rattle.jam_fields.specs.Rows.{last_item}
+use Rattle.jam_fields.specs.ItemLaws.{last_item-cons}
 
 -- each row stands so to the one before it
 abbrev pub Ascend : {A : Type 0} → (A → A → Type 0) → Option A → List A → Type 0
@@ -72,27 +48,20 @@ module _ {A : Type 0} (g : Option A → Format A) (P : A → A → Type 0) where
       subst (Ascend P last) parts.0 (one_read rises last x.0.0 r x.0.1 x.1, read_ascend rises n (Some x.0.0) x.0.1 y.0.0 y.0.1 y.1)
 
 module _ {A K V : Type 0} (R : K → K → Ordering) (total : IsTotalOrder R) (entry : A → K × V) where
-  lower : (low k : K) (es : List (K × V)) → R low k ≡ Less → T (below_all R k es) → T (below_all R low es)
-  lower low k [] less h = tt
-  lower low k (e ∷ es) less h =
-      let above : R k e.0 ≡ Less = less_of (R k e.0) (first_of (is_lt (R k e.0)) (below_all R k es) h) in
-      all_of (is_lt (R low e.0)) (below_all R low es) (of_less (R low e.0) (total.trans low k e.0 less above))
-      (lower low k es less (second_of (is_lt (R k e.0)) (below_all R k es) h))
-
   above_last : (l : A) (xs : List A) → Ascend (λ a b. R (entry a).0 (entry b).0 ≡ Less) (Some l) xs → T (below_all R (entry l).0 (map entry xs)) × T (is_sorted R (map entry xs))
   above_last l [] h = (tt, tt)
   above_last l (x ∷ xs) h =
       let rest : T (below_all R (entry x).0 (map entry xs)) × T (is_sorted R (map entry xs)) = above_last x xs h.1 in (
-        all_of (is_lt (R (entry l).0 (entry x).0)) (below_all R (entry l).0 (map entry xs)) (of_less (R (entry l).0 (entry x).0) h.0)
-            (lower (entry l).0 (entry x).0 (map entry xs) h.0 rest.0),
-        all_of (below_all R (entry x).0 (map entry xs)) (is_sorted R (map entry xs)) rest.0 rest.1,
+        and_holds (is_lt (R (entry l).0 (entry x).0)) (below_all R (entry l).0 (map entry xs)) (less_holds (R (entry l).0 (entry x).0) h.0)
+            (below_lower R total (entry l).0 (entry x).0 (map entry xs) h.0 rest.0),
+        and_holds (below_all R (entry x).0 (map entry xs)) (is_sorted R (map entry xs)) rest.0 rest.1,
       )
 
   pub rows_sorted : (xs : List A) → Ascend (λ a b. R (entry a).0 (entry b).0 ≡ Less) None xs → T (is_sorted R (map entry xs))
   rows_sorted [] h = tt
   rows_sorted (x ∷ xs) h =
       let rest : T (below_all R (entry x).0 (map entry xs)) × T (is_sorted R (map entry xs)) = above_last x xs h.1 in
-      all_of (below_all R (entry x).0 (map entry xs)) (is_sorted R (map entry xs)) rest.0 rest.1
+      and_holds (below_all R (entry x).0 (map entry xs)) (is_sorted R (map entry xs)) rest.0 rest.1
 
 -- keys that were read stand above the one before them
 abbrev pub ReadAbove : {K : Type 0} → (K → K → Ordering) → (Option K → Format K) → Type 0
@@ -128,14 +97,14 @@ blob_read test r bytes s e =
     }
 
 pub blob_above : ReadAbove (slice_cmp nat_cmp) blob_after
-blob_above l k r s e = from_test (slice_cmp nat_cmp l k) ((blob_read (follows (slice_cmp nat_cmp) (Some l)) r k s e).passes)
+blob_above l k r s e = less_from (slice_cmp nat_cmp l k) ((blob_read (follows (slice_cmp nat_cmp) (Some l)) r k s e).passes)
 
 pub blob_by_above : (digest : List ℕ → List ℕ) → ReadAbove (λ a b. slice_cmp nat_cmp (digest a) (digest b)) (blob_by_after digest)
 blob_by_above digest l k r s e =
-    from_test (slice_cmp nat_cmp (digest l) (digest k)) ((blob_read (λ bytes. follows (slice_cmp nat_cmp) (Some (digest l)) (digest bytes)) r k s e).passes)
+    less_from (slice_cmp nat_cmp (digest l) (digest k)) ((blob_read (λ bytes. follows (slice_cmp nat_cmp) (Some (digest l)) (digest bytes)) r k s e).passes)
 
 pub number_above : (n : ℕ) → ReadAbove nat_cmp (number_after n)
-number_above n l k r s e = from_test (nat_cmp l k) (passing_ok (follows nat_cmp (Some l)) r.place (fixed_at n r) k s e).1
+number_above n l k r s e = less_from (nat_cmp l k) (passing_ok (follows nat_cmp (Some l)) r.place (fixed_at n r) k s e).1
 
 pub hash_and_number_above : ReadAbove hash_and_number_cmp hash_and_number_after
 hash_and_number_above l k r s e =
@@ -145,9 +114,9 @@ hash_and_number_above l k r s e =
     chain_ok ((fixed_where 4 (λ n. follows hash_and_number_cmp (Some l) (h.0.0, n))).read h.0.1) (λ y. Ok ((h.0.0, y.0), y.1)) (k, s) h.2 in
     let parts : ((h.0.0, n.0.0) ≡ k) × (n.0.1 ≡ s) = ok_parts (h.0.0, n.0.0) k n.0.1 s n.2 in
     let passes = (passing_ok (λ n. follows hash_and_number_cmp (Some l) (h.0.0, n)) h.0.1.place (fixed_at 4 h.0.1) n.0.0 n.0.1 n.1).1 in
-    subst (λ (q : List ℕ × ℕ). hash_and_number_cmp l q ≡ Less) parts.0 (from_test (hash_and_number_cmp l (h.0.0, n.0.0)) passes)
+    subst (λ (q : List ℕ × ℕ). hash_and_number_cmp l q ≡ Less) parts.0 (less_from (hash_and_number_cmp l (h.0.0, n.0.0)) passes)
 
-pub entry_above : {K V : Type 0} (R : K → K → Ordering) (key : Option K → Format K) (value : Format V) → ReadAbove R key → (l x : K × V) (r s : Reading) → (entry_of key value (Some l)).read r ≡ Ok (x, s) → R l.0 x.0 ≡ Less
+pub entry_above : {K V : Type 0} (R : K → K → Ordering) (key : Option K → Format K) (value : Format V) → ReadAbove R key → (l x : K × V) (r s : Reading) → (map_entry key value (Some l)).read r ≡ Ok (x, s) → R l.0 x.0 ≡ Less
 entry_above {K} {V} R key value above l x r s e =
     let k : (k : K × Reading) × ((key (Some l.0)).read r ≡ Ok k) × ((value.read k.1 >>= λ y. Ok ((k.0, y.0), y.1)) ≡ Ok (x, s)) =
     chain_ok ((key (Some l.0)).read r) (λ k. value.read k.1 >>= λ y. Ok ((k.0, y.0), y.1)) (x, s) e in
@@ -210,20 +179,20 @@ list_sorted R total entry test g above r xs s e =
 
 pub map_sorted : {K V : Type 0} (R : K → K → Ordering) (total : IsTotalOrder R) (key : Option K → Format K) (value : Format V) → ReadAbove R key → (r : Reading) (es : List (K × V)) (s : Reading) → (map_of key value).read r ≡ Ok (es, s) → T (is_sorted R es)
 map_sorted R total key value above r es s e =
-    subst (λ xs. T (is_sorted R xs)) (map_same es) (list_sorted R total (λ x. x) any (entry_of key value) (entry_above R key value above) r es s e)
+    subst (λ xs. T (is_sorted R xs)) (map_same es) (list_sorted R total (λ x. x) any (map_entry key value) (entry_above R key value above) r es s e)
 
 -- an entry above all that a map holds
 module _ {K V : Type 0} (R : K → K → Ordering) (total : IsTotalOrder R) where
   pub below_at : (low : K) (es rest : List (K × V)) (k : K) (v : V) → T (below_all R low (es ++ (k, v) ∷ rest)) → R low k ≡ Less
-  below_at low [] rest k v h = less_of (R low k) (first_of (is_lt (R low k)) (below_all R low rest) h)
-  below_at low (e ∷ es) rest k v h = below_at low es rest k v (second_of (is_lt (R low e.0)) (below_all R low (es ++ (k, v) ∷ rest)) h)
+  below_at low [] rest k v h = holds_less (R low k) (left_holds (is_lt (R low k)) (below_all R low rest) h)
+  below_at low (e ∷ es) rest k v h = below_at low es rest k v (right_holds (is_lt (R low e.0)) (below_all R low (es ++ (k, v) ∷ rest)) h)
 
   put_end : (es rest : List (K × V)) (k : K) (v : V) → T (is_sorted R (es ++ (k, v) ∷ rest)) → put R k v es ≡ es ++ (k, v) ∷ []
   put_end [] rest k v h = refl
   put_end (e ∷ es) rest k v h =
-      let less : R e.0 k ≡ Less = below_at e.0 es rest k v (first_of (below_all R e.0 (es ++ (k, v) ∷ rest)) (is_sorted R (es ++ (k, v) ∷ rest)) h) in
+      let less : R e.0 k ≡ Less = below_at e.0 es rest k v (left_holds (below_all R e.0 (es ++ (k, v) ∷ rest)) (is_sorted R (es ++ (k, v) ∷ rest)) h) in
       let greater : R k e.0 ≡ Greater = total.antisymm k e.0 ∙ ap ordering_reverse less in
-      rw greater (ap (λ (xs : List (K × V)). e ∷ xs) (put_end es rest k v (second_of (below_all R e.0 (es ++ (k, v) ∷ rest)) (is_sorted R (es ++ (k, v) ∷ rest)) h)))
+      rw greater (ap (λ (xs : List (K × V)). e ∷ xs) (put_end es rest k v (right_holds (below_all R e.0 (es ++ (k, v) ∷ rest)) (is_sorted R (es ++ (k, v) ∷ rest)) h)))
 
   pub insert_end : (m : fin.FinMap R V) (rest : List (K × V)) (k : K) (v : V) → T (is_sorted R (fin.entries m ++ (k, v) ∷ rest)) → fin.entries (fin.insert m k v) ≡ fin.entries m ++ (k, v) ∷ []
   insert_end m rest k v h = fin.entries-insert total m k v ∙ put_end (fin.entries m) rest k v h
@@ -236,14 +205,14 @@ module _ {K V : Type 0} (R : K → K → Ordering) (total : IsTotalOrder R) wher
   passes_after None front rest k v low h = refl
   passes_after (Some l) front rest k v low h = ap is_lt (low l refl)
 
-  last_below : (front rest : List (K × V)) (k : K) (v : V) → T (is_sorted R (front ++ (k, v) ∷ rest)) → (low : K × V) → last_of front ≡ Some low → R low.0 k ≡ Less
-  unfolding last_of
+  last_below : (front rest : List (K × V)) (k : K) (v : V) → T (is_sorted R (front ++ (k, v) ∷ rest)) → (low : K × V) → last_item front ≡ Some low → R low.0 k ≡ Less
+  unfolding last_item
   last_below [] rest k v h low e = absurd (cc e)
   last_below (x ∷ []) rest k v h low e =
       let same : x ≡ low = cc in
-      subst (λ (q : K × V). R q.0 k ≡ Less) same (below_at x.0 [] rest k v (first_of (below_all R x.0 ((k, v) ∷ rest)) (is_sorted R ((k, v) ∷ rest)) h))
+      subst (λ (q : K × V). R q.0 k ≡ Less) same (below_at x.0 [] rest k v (left_holds (below_all R x.0 ((k, v) ∷ rest)) (is_sorted R ((k, v) ∷ rest)) h))
   last_below (x ∷ y ∷ ys) rest k v h low e =
-      last_below (y ∷ ys) rest k v (second_of (below_all R x.0 ((y ∷ ys) ++ (k, v) ∷ rest)) (is_sorted R ((y ∷ ys) ++ (k, v) ∷ rest)) h) low (sym (last_of-cons x y ys) ∙ e)
+      last_below (y ∷ ys) rest k v (right_holds (below_all R x.0 ((y ∷ ys) ++ (k, v) ∷ rest)) (is_sorted R ((y ∷ ys) ++ (k, v) ∷ rest)) h) low (sym (last_item-cons x y ys) ∙ e)
 
-  pub follows_last : (front rest : List (K × V)) (k : K) (v : V) → T (is_sorted R (front ++ (k, v) ∷ rest)) → follows R (option_map (λ (e : K × V). e.0) (last_of front)) k ≡ true
-  follows_last front rest k v h = passes_after (last_of front) front rest k v (last_below front rest k v h) h
+  pub follows_last : (front rest : List (K × V)) (k : K) (v : V) → T (is_sorted R (front ++ (k, v) ∷ rest)) → follows R (option_map (λ (e : K × V). e.0) (last_item front)) k ≡ true
+  follows_last front rest k v h = passes_after (last_item front) front rest k v (last_below front rest k v h) h

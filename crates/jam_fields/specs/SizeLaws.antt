@@ -6,9 +6,9 @@ use Rattle.std.proofs.lemmas.List.{length-drop, length-take-le}
 use Rattle.std.proofs.lemmas.Bool.{ltb-false}
 use Rattle.jam_codec.specs.Reading.{Reading, ◌>>=◌, natural_at, natural_of, moved, bytes_at, tail_after, joined, least_with}
 use Rattle.jam_codec.specs.Format.{Format, items_at}
-use Rattle.jam_codec.specs.Lists.{blob_where, entry_of}
-use Rattle.jam_codec.proofs.Formats.{chain_ok, ok_parts}
-use Rattle.jam_fields.proofs.Sorted.{BlobRead, blob_read}
+use Rattle.jam_codec.specs.Lists.{blob_where, map_entry}
+use Rattle.jam_codec.specs.FormatLaws.{chain_ok, ok_parts}
+use Rattle.jam_fields.specs.SortedLaws.{BlobRead, blob_read}
 
 chosen : (b c : Bool) (n m : ℕ) (xs ys : List ℕ) → if◌then◌else◌ {A = Option (ℕ × List ℕ)} b None (if◌then◌else◌ {A = Option (ℕ × List ℕ)} c None (Some (n, xs))) ≡ Some (m, ys) → xs ≡ ys
 chosen true c n m xs ys e = absurd (cc e)
@@ -58,7 +58,7 @@ joined_sizes a b all mid end p q = omega arith
 abbrev pub Bears : {A : Type 0} → Format A → (A → ℕ) → Type 0
 Bears {A} f weight = (r : Reading) (x : A) (s : Reading) → f.read r ≡ Ok (x, s) → weight x + length s.rest ≤ length r.rest
 
-pub entry_size : {K V : Type 0} (key : Option K → Format K) (value : Format V) (of_key : K → ℕ) (of_value : V → ℕ) → ((last : Option K) → Bears (key last) of_key) → Bears value of_value → (last : Option (K × V)) → Bears (entry_of key value last) (λ e. of_key e.0 + of_value e.1)
+pub entry_size : {K V : Type 0} (key : Option K → Format K) (value : Format V) (of_key : K → ℕ) (of_value : V → ℕ) → ((last : Option K) → Bears (key last) of_key) → Bears value of_value → (last : Option (K × V)) → Bears (map_entry key value last) (λ e. of_key e.0 + of_value e.1)
 entry_size {K} {V} key value of_key of_value bears_key bears_value last r x s e =
     let before : Option K = option_map (λ (p : K × V). p.0) last in
     let k : (k : K × Reading) × ((key before).read r ≡ Ok k) × ((value.read k.1 >>= λ y. Ok ((k.0, y.0), y.1)) ≡ Ok (x, s)) =

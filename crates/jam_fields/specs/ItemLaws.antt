@@ -1,25 +1,32 @@
 -- Items that are read, or written, one after another.
-use Rattle.std.proofs.Common.{◌≡◌, ℕ, zero, suc, ◌+◌, ◌-◌, ◌<◌, List, [], ◌∷◌, ◌++◌, length, ap, sym, ◌∙◌, refl, subst, arith, Ok, Err, Result, Option, Some, None, append_assoc, append-nil, length-append, get_or, take, drop, drop-cons, add-one}
+use Rattle.std.proofs.Common.{◌≡◌, ℕ, zero, suc, ◌+◌, ◌-◌, ◌<◌, ◌≤◌, List, [], ◌∷◌, ◌++◌, length, ap, sym, ◌∙◌, refl, subst, arith, Ok, Err, Result, Option, Some, None, append_assoc, append-nil, length-append, get_or, take, drop, drop-cons, add-one}
 use Rattle.std.specs.Prelude.{slice_get}
 use Rattle.jam_codec.specs.Reading.{Reading, Refuses, ◌>>=◌}
 use Rattle.jam_codec.specs.Format.{Format, items_at, items_spelled, items_fit}
 use Rattle.std.specs.Io.{StartsWith}
-use Rattle.jam_fields.specs.Rows.{last_of}
-use Rattle.jam_fields.proofs.Kept.{kept_front}
+use Rattle.jam_fields.specs.Rows.{last_item}
+use Rattle.std.proofs.lemmas.List.{take-take}
+use Rattle.std.proofs.Math.Seq.{take-append_seam}
+
+-- what stands in front of bytes that were kept was kept
+pub kept_front : (old more new : List ℕ) → take (length (old ++ more)) new ≡ old ++ more → take (length old) new ≡ old
+kept_front old more new kept =
+    let shorter : length old ≤ length (old ++ more) = omega (arith, length-append old more) in
+    sym (take-take (length old) (length (old ++ more)) new shorter) ∙ ap (take (length old)) kept ∙ take-append_seam old more
 
 at_length : {A : Type 0} → (xs : List A) (x : A) → slice_get (xs ++ x ∷ []) (length xs) ≡ Some x
 at_length [] x = refl
 at_length (y ∷ xs) x = at_length xs x
 
-pub last_of-append : {A : Type 0} → (xs : List A) (x : A) → last_of (xs ++ x ∷ []) ≡ Some x
-unfolding last_of
-last_of-append xs x =
+pub last_item-append : {A : Type 0} → (xs : List A) (x : A) → last_item (xs ++ x ∷ []) ≡ Some x
+unfolding last_item
+last_item-append xs x =
     let place : length (xs ++ x ∷ []) - 1 ≡ length xs = omega (arith, length-append xs (x ∷ [])) in
     rw place (at_length xs x)
 
-pub last_of-cons : {A : Type 0} → (x y : A) (ys : List A) → last_of (x ∷ y ∷ ys) ≡ last_of (y ∷ ys)
-unfolding last_of
-last_of-cons x y ys =
+pub last_item-cons : {A : Type 0} → (x y : A) (ys : List A) → last_item (x ∷ y ∷ ys) ≡ last_item (y ∷ ys)
+unfolding last_item
+last_item-cons x y ys =
     let left : length (x ∷ y ∷ ys) - 1 ≡ suc (length ys) = omega arith in
     let right : length (y ∷ ys) - 1 ≡ length ys = omega arith in
     rw (left, right) refl
@@ -29,15 +36,15 @@ abbrev pub last_after : {A : Type 0} → Option A → List A → Option A
 last_after before [] = before
 last_after before (x ∷ xs) = last_after (Some x) xs
 
-last_after-some : {A : Type 0} → (x : A) (xs : List A) → last_after (Some x) xs ≡ last_of (x ∷ xs)
-unfolding last_of
+last_after-some : {A : Type 0} → (x : A) (xs : List A) → last_after (Some x) xs ≡ last_item (x ∷ xs)
+unfolding last_item
 last_after-some x [] = refl
-last_after-some x (y ∷ ys) = last_after-some y ys ∙ sym (last_of-cons x y ys)
+last_after-some x (y ∷ ys) = last_after-some y ys ∙ sym (last_item-cons x y ys)
 
-pub last_after-last_of : {A : Type 0} → (xs : List A) → last_after None xs ≡ last_of xs
-unfolding last_of
-last_after-last_of [] = refl
-last_after-last_of (x ∷ xs) = last_after-some x xs
+pub last_after-last_item : {A : Type 0} → (xs : List A) → last_after None xs ≡ last_item xs
+unfolding last_item
+last_after-last_item [] = refl
+last_after-last_item (x ∷ xs) = last_after-some x xs
 
 -- items in front of those that are read
 abbrev pub behind : {A : Type 0} → List A → Result (List A × Reading) ℕ → Result (List A × Reading) ℕ
@@ -46,7 +53,7 @@ behind front (Err place) = Err place
 
 -- some items were read, and these many are left
 pub record Ahead {A : Type 0} (g : Option A → Format A) (all : Result (List A × Reading) ℕ) (front : List A) (n : ℕ) (r : Reading) : Type 0 where
-  pub is : all ≡ behind front (items_at g n (last_of front) r)
+  pub is : all ≡ behind front (items_at g n (last_item front) r)
 
 behind-none : {A : Type 0} → (q : Result (List A × Reading) ℕ) → q ≡ behind [] q
 behind-none (Ok x) = refl
@@ -57,17 +64,17 @@ behind-append front x (Ok y) = ap (λ xs. Ok (xs, y.1)) (sym (append_assoc front
 behind-append front x (Err place) = refl
 
 pub none_read : {A : Type 0} → (g : Option A → Format A) (n : ℕ) (r : Reading) → Ahead g (items_at g n None r) [] n r
-unfolding last_of
+unfolding last_item
 none_read g n r = record { is = behind-none (items_at g n None r) }
 
 module _ {A : Type 0} (g : Option A → Format A) (all : Result (List A × Reading) ℕ) (front : List A) (n : ℕ) (r : Reading) where
-  pub one_read : (m : ℕ) (x : A) (s : Reading) → Ahead g all front n r → n ≡ suc m → (g (last_of front)).read r ≡ Ok (x, s) → Ahead g all (front ++ x ∷ []) m s
+  pub one_read : (m : ℕ) (x : A) (s : Reading) → Ahead g all front n r → n ≡ suc m → (g (last_item front)).read r ≡ Ok (x, s) → Ahead g all (front ++ x ∷ []) m s
   unfolding items_at
   one_read m x s ahead count read = record {
-    is = ahead.is ∙ rw (count, read, last_of-append front x) (behind-append front x (items_at g m (Some x) s));
+    is = ahead.is ∙ rw (count, read, last_item-append front x) (behind-append front x (items_at g m (Some x) s));
   }
 
-  pub one_refused : (m : ℕ) (place : Option ℕ) → Ahead g all front n r → n ≡ suc m → Refuses place ((g (last_of front)).read r) → Refuses place all
+  pub one_refused : (m : ℕ) (place : Option ℕ) → Ahead g all front n r → n ≡ suc m → Refuses place ((g (last_item front)).read r) → Refuses place all
   unfolding items_at
   one_refused m (Some place) ahead count refused = ahead.is ∙ rw (count, refused) refl
   one_refused m None ahead count refused = tt
@@ -84,16 +91,16 @@ spelled-append g before (y ∷ xs) x =
     ap (λ (bytes : List ℕ). (g before).spell y ++ bytes) (spelled-append g (Some y) xs x)
     ∙ sym (append_assoc ((g before).spell y) (items_spelled g (Some y) xs) ((g (last_after (Some y) xs)).spell x))
 
-pub items_spelled-append : {A : Type 0} → (g : Option A → Format A) (xs : List A) (x : A) → items_spelled g None (xs ++ x ∷ []) ≡ items_spelled g None xs ++ (g (last_of xs)).spell x
-items_spelled-append g xs x = spelled-append g None xs x ∙ ap (λ last. items_spelled g None xs ++ (g last).spell x) (last_after-last_of xs)
+pub items_spelled-append : {A : Type 0} → (g : Option A → Format A) (xs : List A) (x : A) → items_spelled g None (xs ++ x ∷ []) ≡ items_spelled g None xs ++ (g (last_item xs)).spell x
+items_spelled-append g xs x = spelled-append g None xs x ∙ ap (λ last. items_spelled g None xs ++ (g last).spell x) (last_after-last_item xs)
 
 fit-append : {A : Type 0} → (g : Option A → Format A) (before : Option A) (xs : List A) (x : A) → items_fit g (length xs) before xs → (g (last_after before xs)).Fits x → items_fit g (length (xs ++ x ∷ [])) before (xs ++ x ∷ [])
 unfolding items_fit
 fit-append g before [] x h fits = (fits, tt)
 fit-append g before (y ∷ xs) x h fits = (h.0, fit-append g (Some y) xs x h.1 fits)
 
-pub items_fit-append : {A : Type 0} → (g : Option A → Format A) (xs : List A) (x : A) → items_fit g (length xs) None xs → (g (last_of xs)).Fits x → items_fit g (length (xs ++ x ∷ [])) None (xs ++ x ∷ [])
-items_fit-append g xs x h fits = fit-append g None xs x h (subst (λ last. (g last).Fits x) (sym (last_after-last_of xs)) fits)
+pub items_fit-append : {A : Type 0} → (g : Option A → Format A) (xs : List A) (x : A) → items_fit g (length xs) None xs → (g (last_item xs)).Fits x → items_fit g (length (xs ++ x ∷ [])) None (xs ++ x ∷ [])
+items_fit-append g xs x h fits = fit-append g None xs x h (subst (λ last. (g last).Fits x) (sym (last_after-last_item xs)) fits)
 
 -- some items were added to the bytes, and these are left
 pub record Added {A : Type 0} (g : Option A → Format A) (all left : List A) (old new : List ℕ) : Type 0 where
@@ -110,15 +117,11 @@ one_added g all left x old mid new added is = record {
   front = added.front ++ x ∷ [];
   parts = added.parts ∙ sym (append_assoc added.front (x ∷ []) left);
   bytes =
-      is (last_of added.front)
-      ∙ ap (λ (bytes : List ℕ). bytes ++ (g (last_of added.front)).spell x) added.bytes
-      ∙ append_assoc old (items_spelled g None added.front) ((g (last_of added.front)).spell x)
+      is (last_item added.front)
+      ∙ ap (λ (bytes : List ℕ). bytes ++ (g (last_item added.front)).spell x) added.bytes
+      ∙ append_assoc old (items_spelled g None added.front) ((g (last_item added.front)).spell x)
       ∙ ap (λ (bytes : List ℕ). old ++ bytes) (sym (items_spelled-append g added.front x));
 }
-
-pub all_added : {A : Type 0} → (g : Option A → Format A) (all left : List A) (old new : List ℕ) → Added g all left old new → left ≡ [] → new ≡ old ++ items_spelled g None all
-all_added g all left old new added none =
-    added.bytes ∙ ap (λ xs. old ++ items_spelled g None xs) (sym (append-nil added.front) ∙ ap (λ xs. added.front ++ xs) (sym none) ∙ sym added.parts)
 
 -- the same, and those that were added fit
 pub record AddedWhole {A : Type 0} (g : Option A → Format A) (all left : List A) (old new : List ℕ) : Type 0 where
@@ -129,7 +132,7 @@ pub none_added_whole : {A : Type 0} → (g : Option A → Format A) (all : List 
 unfolding items_fit none_added
 none_added_whole g all old = record { added = none_added g all old; fit = tt }
 
-pub one_added_whole : {A : Type 0} → (g : Option A → Format A) (all left : List A) (x : A) (old mid new : List ℕ) → (whole : AddedWhole g all (x ∷ left) old mid) → ((last : Option A) → new ≡ mid ++ (g last).spell x) → (g (last_of whole.added.front)).Fits x → AddedWhole g all left old new
+pub one_added_whole : {A : Type 0} → (g : Option A → Format A) (all left : List A) (x : A) (old mid new : List ℕ) → (whole : AddedWhole g all (x ∷ left) old mid) → ((last : Option A) → new ≡ mid ++ (g last).spell x) → (g (last_item whole.added.front)).Fits x → AddedWhole g all left old new
 unfolding one_added
 one_added_whole g all left x old mid new whole is fits = record {
   added = one_added g all left x old mid new whole.added is;
@@ -150,6 +153,6 @@ pub drop_is : {A : Type 0} → (xs : List A) (i : ℕ) (x : A) → i < length xs
 drop_is xs i x within is = drop-cons xs i x within ∙ ap (λ y. y ∷ drop (suc i) xs) (sym is) ∙ ap (λ k. x ∷ drop k xs) (sym (add-one i))
 
 -- what is read after the last item
-pub read_after_last : {A : Type 0} → (g : Option A → Format A) (xs : List A) (last : Option A) (r : Reading) → last ≡ slice_get xs (length xs - 1) → (g last).read r ≡ (g (last_of xs)).read r
-unfolding last_of
+pub read_after_last : {A : Type 0} → (g : Option A → Format A) (xs : List A) (last : Option A) (r : Reading) → last ≡ slice_get xs (length xs - 1) → (g last).read r ≡ (g (last_item xs)).read r
+unfolding last_item
 read_after_last g xs last r is = ap (λ y. (g y).read r) is

@@ -12,14 +12,14 @@ use Rattle.std.specs.FinMap.Entries.{below_all, is_sorted}
 use Rattle.std.proofs.lemmas.Cmp.{nat_cmp_total, nat_list_cmp_total, on_total, then_total}
 use Rattle.std.proofs.lemmas.Bool.{leb-true, lt-leb}
 use Rattle.std.proofs.lemmas.Bool.Decides.{nat_tests}
-use Rattle.jam_codec.specs.Spelling.{little_endian}
-use Rattle.jam_codec.proofs.Numbers.{length-little_endian}
+use Rattle.byte_numbers.specs.Numbers.{little_endian}
+use Rattle.byte_numbers.specs.NumberLaws.{length-little_endian}
 use Rattle.jam_codec.specs.Reading.{Reading, Takes, natural_at, bytes_at, fixed_at}
 use Rattle.jam_codec.specs.Format.{Format, any, both, times, natural_where, fixed_where, bytes_where, items_fit}
-use Rattle.jam_codec.specs.Lists.{blob_where, list_of, entry_of, map_of, fin_map_of, follows, blob_after, blob_by_after, number_after, hash_and_number_cmp, is_hash_from, hash_and_number_after, nothing, option_tag, some_of, if_present, option_of, behind_one}
+use Rattle.jam_codec.specs.Lists.{blob_where, list_of, map_entry, map_of, fin_map_of, follows, blob_after, blob_by_after, number_after, hash_and_number_cmp, is_hash_from, hash_and_number_after, nothing, option_tag, some_of, if_present, option_of, behind_one}
 use Rattle.jam_codec.specs.Laws.{IsFormat}
-use Rattle.jam_codec.proofs.Formats.{ok_parts, read_here, both_laws, same_laws, by_laws, times_laws, length-items}
-use Rattle.jam_codec.proofs.Fields.{natural_laws, fixed_laws, bytes_laws}
+use Rattle.jam_codec.specs.JoinLaws.{ok_parts, read_here, both_laws, same_laws, by_laws, times_laws, length-items}
+use Rattle.jam_codec.specs.FieldLaws.{natural_laws, fixed_laws, bytes_laws}
 
 -- where nothing is read, nothing is spelled
 pub none_spelled : {A : Type 0} → (f : Format A) → IsFormat f → (r : Reading) (place : ℕ) → f.read r ≡ Err place → (x : A) (tail : List ℕ) → f.Fits x → r.rest ≡ f.spell x ++ tail → ⊥
@@ -41,11 +41,11 @@ module _ {A : Type 0} (test : ℕ → Bool) (g : Option A → Format A) (G : (la
       (λ xs h. refl)
 
 module _ {K V : Type 0} (key : Option K → Format K) (value : Format V) (Key : (last : Option K) → IsFormat (key last)) (Value : IsFormat value) where
-  pub entry_laws : (last : Option (K × V)) → IsFormat (entry_of key value last)
+  pub entry_laws : (last : Option (K × V)) → IsFormat (map_entry key value last)
   entry_laws last = both_laws (key (option_map (λ entry. entry.0) last)) (λ k. value) (Key (option_map (λ entry. entry.0) last)) (λ k. Value)
 
   pub map_laws : IsFormat (map_of key value)
-  map_laws = list_laws any (entry_of key value) entry_laws
+  map_laws = list_laws any (map_entry key value) entry_laws
 
 -- keys that ascend
 pub blob_after_laws : (last : Option (List ℕ)) → IsFormat (blob_after last)
@@ -62,7 +62,7 @@ hash_and_number_laws last =
     both_laws (bytes_where 32 (is_hash_from last)) (λ hash. fixed_where 4 (λ n. follows hash_and_number_cmp last (hash, n)))
     (bytes_laws 32 (is_hash_from last)) (λ hash. fixed_laws 4 (λ n. follows hash_and_number_cmp last (hash, n)))
 
-less_from : (order : Ordering) → is_lt order ≡ true → order ≡ Less
+pub less_from : (order : Ordering) → is_lt order ≡ true → order ≡ Less
 less_from Less e = refl
 less_from Equal e = absurd (cc e)
 less_from Greater e = absurd (cc e)
@@ -163,28 +163,28 @@ module _ {A : Type 0} (f : Format A) (F : IsFormat f) where
   behind_one_some x h = omega (arith, length-append (little_endian 1 1) (f.spell x), length-little_endian 1 1)
 
 -- the entries of a map are sorted
-and_holds : (a b : Bool) → T a → T b → T (a && b)
+pub and_holds : (a b : Bool) → T a → T b → T (a && b)
 and_holds true b p q = q
 and_holds false b p q = absurd p
 
-left_holds : (a b : Bool) → T (a && b) → T a
+pub left_holds : (a b : Bool) → T (a && b) → T a
 left_holds true b p = tt
 left_holds false b p = absurd p
 
-right_holds : (a b : Bool) → T (a && b) → T b
+pub right_holds : (a b : Bool) → T (a && b) → T b
 right_holds true b p = p
 right_holds false b p = absurd p
 
-less_holds : (order : Ordering) → order ≡ Less → T (is_lt order)
+pub less_holds : (order : Ordering) → order ≡ Less → T (is_lt order)
 less_holds order e = subst (λ (o : Ordering). T (is_lt o)) (sym e) tt
 
-holds_less : (order : Ordering) → T (is_lt order) → order ≡ Less
+pub holds_less : (order : Ordering) → T (is_lt order) → order ≡ Less
 holds_less Less h = refl
 holds_less Equal h = absurd h
 holds_less Greater h = absurd h
 
 module _ {K V : Type 0} (R : K → K → Ordering) (total : IsTotalOrder R) where
-  below_lower : (low k : K) (es : List (K × V)) → R low k ≡ Less → T (below_all R k es) → T (below_all R low es)
+  pub below_lower : (low k : K) (es : List (K × V)) → R low k ≡ Less → T (below_all R k es) → T (below_all R low es)
   below_lower low k [] less h = tt
   below_lower low k (e ∷ es) less h =
       let above : R k e.0 ≡ Less = holds_less (R k e.0) (left_holds (is_lt (R k e.0)) (below_all R k es) h) in
@@ -192,7 +192,7 @@ module _ {K V : Type 0} (R : K → K → Ordering) (total : IsTotalOrder R) wher
       (below_lower low k es less (right_holds (is_lt (R k e.0)) (below_all R k es) h))
 
   module _ (key : Option K → Format K) (value : Format V) (rises : Rises R key) where
-    rest_sorted : (n : ℕ) (last : K × V) (es : List (K × V)) → items_fit (entry_of key value) n (Some last) es → T (below_all R last.0 es) × T (is_sorted R es)
+    rest_sorted : (n : ℕ) (last : K × V) (es : List (K × V)) → items_fit (map_entry key value) n (Some last) es → T (below_all R last.0 es) × T (is_sorted R es)
     unfolding items_fit
     rest_sorted n last [] h = (tt, tt)
     rest_sorted zero last (e ∷ es) h = absurd h
@@ -203,7 +203,7 @@ module _ {K V : Type 0} (R : K → K → Ordering) (total : IsTotalOrder R) wher
           and_holds (below_all R e.0 es) (is_sorted R es) rest.0 rest.1,
         )
 
-    entries_sorted : (n : ℕ) (es : List (K × V)) → items_fit (entry_of key value) n None es → T (is_sorted R es)
+    entries_sorted : (n : ℕ) (es : List (K × V)) → items_fit (map_entry key value) n None es → T (is_sorted R es)
     unfolding items_fit
     entries_sorted n [] h = tt
     entries_sorted zero (e ∷ es) h = absurd h
@@ -211,13 +211,13 @@ module _ {K V : Type 0} (R : K → K → Ordering) (total : IsTotalOrder R) wher
         let rest : T (below_all R e.0 es) × T (is_sorted R es) = rest_sorted n e es h.1 in
         and_holds (below_all R e.0 es) (is_sorted R es) rest.0 rest.1
 
-    pub map_sorted : (es : List (K × V)) → (map_of key value).Fits es → T (is_sorted R es)
-    map_sorted es h = entries_sorted (length es) es h.1
+    pub fitting_map_sorted : (es : List (K × V)) → (map_of key value).Fits es → T (is_sorted R es)
+    fitting_map_sorted es h = entries_sorted (length es) es h.1
 
     pub fin_map_laws : ((last : Option K) → IsFormat (key last)) → IsFormat value → IsFormat (fin_map_of R key value)
     fin_map_laws Key Value =
         by_laws (fin.from_sorted {R = R}) fin.entries (map_of key value) (map_laws key value Key Value)
-        (λ es h. fin.entries-from_sorted R es (map_sorted es h))
+        (λ es h. fin.entries-from_sorted R es (fitting_map_sorted es h))
         (λ m h. fin.same_entries_map (fin.from_sorted {R = R} (fin.entries m)) m (fin.entries-from_sorted R (fin.entries m) (fin.entries_sorted m)))
 
 -- what a refused blob and a refused tag say

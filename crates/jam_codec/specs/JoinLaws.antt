@@ -2,8 +2,9 @@
 use Rattle.std.proofs.Common.{◌≡◌, ℕ, zero, suc, ◌+◌, ◌≤◌, Bool, true, false, List, [], ◌∷◌, ◌++◌, length, refl, sym, ap, ◌∙◌, subst, arith, inl, inr, ◌⊎◌, ◌↔◌, Option, Some, None, Result, Ok, Err, if◌then◌else◌, append_assoc, append-nil, length-append}
 use Rattle.jam_codec.specs.Reading.{Reading, Takes, ◌>>=◌}
 use Rattle.jam_codec.specs.Format.{Format, from, passing, field_where, both, by, items_fit, items_spelled, items_run, items_at, times}
-use Rattle.jam_codec.specs.Laws.{AreBytes, IsCode, Longest, IsFormat, HasOneSpelling, HasNoPrefix}
-use Rattle.jam_codec.proofs.Numbers.{AreBytes-rest}
+use Rattle.byte_numbers.specs.Numbers.{AreBytes}
+use Rattle.jam_codec.specs.Laws.{IsCode, Longest, IsFormat, HasOneSpelling, HasNoPrefix}
+use Rattle.byte_numbers.specs.NumberLaws.{AreBytes-rest}
 
 -- a chain that gave a value, or a place
 pub chain_ok : {A B : Type 0} → (r : Result A ℕ) (f : A → Result B ℕ) (y : B) → (r >>= f) ≡ Ok y → (x : A) × (r ≡ Ok x) × (f x ≡ Ok y)

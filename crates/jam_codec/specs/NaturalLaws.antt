@@ -3,13 +3,13 @@ use Rattle.std.proofs.Common.{◌≡◌, ℕ, zero, suc, ◌+◌, ◌-◌, ◌*�
 use Rattle.std.proofs.Math.Nat.{pow-le-pow_right, mul-le-mul_right}
 use Rattle.std.proofs.lemmas.List.{take_at, drop_at, length-take-le}
 use Rattle.std.proofs.lemmas.Nat.{pow-add, pow_pos, shr_high, mod_low, div_below, mod_below, div-add-mod'}
-use Rattle.std.proofs.lemmas.Bool.{cases_lt, le-ltb, ltb-false}
+use Rattle.std.proofs.lemmas.Bool.{cases_lt, le-ltb, lt-ltb, ltb-false}
 use Rattle.std.proofs.lemmas.Option.{some_pair_parts}
 use Rattle.std.proofs.lemmas.Bool.Decides.{nat_tests}
-use Rattle.jam_codec.specs.Spelling.{little_endian, little_number, tail_length, prefix_of, natural_with, natural}
+use Rattle.byte_numbers.specs.Numbers.{little_endian, little_number, AreBytes}
+use Rattle.jam_codec.specs.Spelling.{tail_length, prefix_of, natural_with, natural}
 use Rattle.jam_codec.specs.Reading.{Reading, Takes, tail_after, least_with, joined, natural_after, natural_of}
-use Rattle.jam_codec.specs.Laws.{AreBytes}
-use Rattle.jam_codec.proofs.Numbers.{AreBytes-tail, AreBytes-take, little_number-little_endian, little_endian-little_number, length-little_endian, little_number-below}
+use Rattle.byte_numbers.specs.NumberLaws.{AreBytes-tail, AreBytes-take, little_number-little_endian, little_endian-little_number, length-little_endian, little_number-below}
 
 -- l bytes after the first hold x, and fewer do not
 pub record Least (l x : ℕ) : Type 0 where
@@ -34,6 +34,43 @@ Least-le l m x p q = elim (cases_lt l m) [
 pub tail_length-is : (l x : ℕ) → x < 2 ^ 64 → Least l x → tail_length x ≡ l
 tail_length-is l x h p =
     omega (arith, Least-le l (tail_length x) x p (tail_length-Least x h), Least-le (tail_length x) l x (tail_length-Least x h) p)
+
+-- by the range of a natural
+least_with-next : (l : ℕ) → least_with (l + 1) ≡ 2 ^ (7 * l + 7)
+least_with-next l =
+    let some : nat_lt 0 (l + 1) ≡ true = lt-ltb 0 (l + 1) (omega arith) in
+    let power : 7 * (l + 1) ≡ 7 * l + 7 = omega arith in
+    rw (some, power) refl
+
+pub tail_length-next : (l x : ℕ) → x < 2 ^ 64 → l < 8 → least_with l ≤ x → x < least_with (l + 1) → tail_length x ≡ l
+tail_length-next l x h few least next =
+    let power : 7 - l + 8 * l ≡ 7 * l + 7 = omega arith in
+    let same : 2 ^ (7 - l + 8 * l) ≡ 2 ^ (7 * l + 7) = ap (λ (k : ℕ). 2 ^ k) power in
+    tail_length-is l x h (record { most = omega arith; least = least; below = omega (arith, least_with-next l) })
+
+short-least : (l x : ℕ) → 2 ^ (7 * l) ≤ x → least_with l ≤ x
+short-least zero x h = omega arith
+short-least (suc l) x h = omega (arith, least_with-positive (suc l) (omega arith))
+
+pub natural-short : (l x : ℕ) → l < 8 → 2 ^ (7 * l) ≤ x → x < 2 ^ (7 * (l + 1)) → natural x ≡ (2 ^ 8 - 2 ^ (8 - l) + x / 2 ^ (8 * l)) ∷ little_endian l (x % 2 ^ (8 * l))
+unfolding natural
+natural-short l x few least below =
+    let power : 7 * (l + 1) ≡ 7 * l + 7 = omega arith in
+    let under : x < 2 ^ (7 * l + 7) = rw power at below in
+    let bound : 2 ^ (7 * l + 7) ≤ 2 ^ 64 = pow-le-pow_right {n = 2} (lit< tt) {i = 7 * l + 7} {j = 64} (omega arith) in
+    ap (λ (k : ℕ). natural_with k x) (tail_length-next l x (omega arith) few (short-least l x least) (omega (arith, least_with-next l)))
+
+pub natural-long : (x : ℕ) → 2 ^ 56 ≤ x → x < 2 ^ 64 → natural x ≡ 255 ∷ little_endian 8 x
+unfolding natural
+natural-long x least below =
+    let high : 2 ^ 8 - 2 ^ (8 - 8) + x / 2 ^ (8 * 8) ≡ 255 = omega arith in
+    let low : x % 2 ^ (8 * 8) ≡ x = omega arith in
+    ap (λ (k : ℕ). natural_with k x) (tail_length-is 8 x below (record { most = omega arith; least = least; below = below }))
+    ∙ (λ i. high i ∷ little_endian 8 (low i))
+
+pub natural-zero : natural 0 ≡ 0 ∷ []
+unfolding natural little_endian
+natural-zero = refl
 
 -- a first byte tells how many follow, and holds the rest of the number
 pub record First (first l : ℕ) : Type 0 where

@@ -2,14 +2,15 @@
 use Rattle.std.proofs.Common.{◌≡◌, ℕ, ◌+◌, ◌-◌, ◌*◌, ◌^◌, ◌<◌, ◌≤◌, Bool, true, false, List, ◌++◌, length, take, refl, sym, ap, ◌∙◌, subst, arith, Option, Some, None, Result, Ok, Err, nat_lt, if◌then◌else◌, length-append, take-append-drop}
 use Rattle.std.proofs.lemmas.List.{take_at, drop_at, length-take-le}
 use Rattle.std.proofs.lemmas.Bool.{le-ltb, ltb-false, lt-ltb, ltb-true}
-use Rattle.jam_codec.specs.Spelling.{natural, little_endian, little_number, binary_digits, binary_number, bytes_for, packed}
+use Rattle.jam_codec.specs.Spelling.{natural, binary_digits, binary_number, bytes_for, packed}
+use Rattle.byte_numbers.specs.Numbers.{little_endian, little_number}
 use Rattle.jam_codec.specs.Reading.{Reading, Takes, past, natural_of, moved, natural_at, bytes_at, fixed_at, bits_at}
 use Rattle.jam_codec.specs.Format.{from, any, natural_where, fixed_where, bytes_where, bits_where, numbers_of}
 use Rattle.jam_codec.specs.Laws.{IsCode, IsFormat}
-use Rattle.jam_codec.proofs.Numbers.{AreBytes-take, little_number-below, little_number-little_endian, little_endian-little_number, length-little_endian}
-use Rattle.jam_codec.proofs.Naturals.{natural_of-natural, natural-Takes}
-use Rattle.jam_codec.proofs.Bits.{Front, packed-Front, packed-found, length-packed, length-binary_digits, binary_digits-binary_number}
-use Rattle.jam_codec.proofs.Formats.{ok_parts, field_laws, times_laws}
+use Rattle.byte_numbers.specs.NumberLaws.{AreBytes-take, little_number-below, little_number-little_endian, little_endian-little_number, length-little_endian}
+use Rattle.jam_codec.specs.NaturalLaws.{natural_of-natural, natural-Takes}
+use Rattle.jam_codec.specs.BitLaws.{Front, packed-Front, packed-found, length-packed, length-binary_digits, binary_digits-binary_number}
+use Rattle.jam_codec.specs.JoinLaws.{ok_parts, field_laws, times_laws}
 
 -- a natural
 moved-ok : (r : Reading) (found : Option (ℕ × List ℕ)) (x : ℕ) (s : Reading) → moved r found ≡ Ok (x, s) → (rest : List ℕ) × (found ≡ Some (x, rest)) × (from (r.place + (length r.rest - length rest)) rest ≡ s)

@@ -5,8 +5,9 @@ use Rattle.std.proofs.lemmas.Bool.{ltb-false, lt-ltb}
 use Rattle.jam_codec.specs.Reading.{Reading, Takes, ◌>>=◌}
 use Rattle.jam_codec.specs.Format.{Format, Spells, from, whole, both, by}
 use Rattle.jam_codec.specs.Lists.{some_spelled, tail_fits, tail_at, with_tail}
-use Rattle.jam_codec.specs.Laws.{AreBytes, Longest, IsFormat, IsFileFormat, SpellsNone, HasOneSpelling, HasOnePrefix}
-use Rattle.jam_codec.proofs.Formats.{chain_ok, chain_err, read_here, one_value, both_laws}
+use Rattle.byte_numbers.specs.Numbers.{AreBytes}
+use Rattle.jam_codec.specs.Laws.{Longest, IsFormat, IsFileFormat, SpellsNone, HasOneSpelling, HasOnePrefix}
+use Rattle.jam_codec.specs.JoinLaws.{chain_ok, chain_err, read_here, one_value, both_laws}
 
 -- what is left after the value, none or some
 abbrev end_of : {A : Type 0} → A × Reading → Result A ℕ

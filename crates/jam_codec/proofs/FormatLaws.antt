@@ -1,5 +1,0 @@
--- The laws of formats, for whoever puts formats together: of each field, of each way to join them, and of whole files.
-pub use Rattle.jam_codec.proofs.Fields.{natural_laws, fixed_laws, bytes_laws, bits_laws, numbers_laws}
-pub use Rattle.jam_codec.proofs.Formats.{both_laws, Same, same_laws, by_laws, times_laws, length-items, one_spelling, no_prefix}
-pub use Rattle.jam_codec.proofs.Lists.{blob_laws, list_laws, entry_laws, map_laws, fin_map_laws, blob_after_laws, blob_by_after_laws, number_after_laws, hash_and_number_laws, Rises, blob_rises, blob_by_rises, number_rises, hash_and_number_rises, hash_and_number_total, nothing_laws, option_laws, behind_one_laws, behind_one_some, none_spelled}
-pub use Rattle.jam_codec.proofs.Whole.{file_laws, by_file_laws, tail_laws, tail_prefix, refused-none, one_spelling_of_file}
