@@ -80,7 +80,7 @@ fn immediate_after_registers(bytes: u64, skip: u8) -> u64
 }
 
 /// A register A and an immediate X, of an instruction with these first eight bytes.
-#[inline]
+#[inline(always)]
 #[tactic(auto, unfolding(crate::specs::Arguments::arguments))]
 pub fn register_and_immediate_in(bytes: u64, skip: u8) -> Args
     ensures arguments { (code : List ℕ) (pc : ℕ) → IsWindow code pc bytes → result ≡ arguments F6 code pc skip }
@@ -118,7 +118,7 @@ pub fn register_immediate_and_offset_in(code: &[u8], bytes: u64, pc: u64, skip: 
 }
 
 /// Registers A and D, of an instruction with these first eight bytes.
-#[inline]
+#[inline(always)]
 #[tactic(auto, unfolding(crate::specs::Arguments::arguments))]
 pub fn two_registers_in(bytes: u64) -> Args
     ensures arguments { (code : List ℕ) (pc skip : ℕ) → IsWindow code pc bytes → result ≡ arguments F9 code pc skip }
@@ -133,7 +133,7 @@ pub fn two_registers_in(bytes: u64) -> Args
 }
 
 /// Registers A and B and an immediate X, of an instruction with these first eight bytes.
-#[inline]
+#[inline(always)]
 #[tactic(auto, unfolding(crate::specs::Arguments::arguments))]
 pub fn two_registers_and_immediate_in(bytes: u64, skip: u8) -> Args
     ensures arguments { (code : List ℕ) (pc : ℕ) → IsWindow code pc bytes → result ≡ arguments F10 code pc skip }
@@ -166,7 +166,7 @@ pub fn two_registers_and_offset_in(bytes: u64, pc: u64, skip: u8) -> Args
 }
 
 /// Registers A, B and D, of an instruction with these first eight bytes.
-#[inline]
+#[inline(always)]
 #[tactic(auto, unfolding(crate::specs::Arguments::arguments))]
 pub fn three_registers_in(bytes: u64) -> Args
     ensures arguments { (code : List ℕ) (pc skip : ℕ) → IsWindow code pc bytes → result ≡ arguments F13 code pc skip }

@@ -77,14 +77,14 @@ IsHeap next end = ((next ≡ 0) × (end ≡ 0)) ⊎ ((65536 ≤ next) × (next �
 
 -- ---- Codes of these values
 
-abbrev pub heap_code : Coded Heap
-heap_code = code_by (ℕ × ℕ) (coded× coded_ℕ coded_ℕ) (λ h. (h.next, h.end)) (λ h. record { next = h.0; end = h.1 }) (λ _. refl)
+abbrev pub coded_heap : Coded Heap
+coded_heap = code_by (ℕ × ℕ) (coded× coded_ℕ coded_ℕ) (λ h. (h.next, h.end)) (λ h. record { next = h.0; end = h.1 }) (λ _. refl)
 
-abbrev pub program_code : Coded Program
-program_code = code_by (ℕ × (List ℕ × (List ℕ × List Bool))) (coded× coded_ℕ (coded× (coded_list coded_ℕ) (coded× (coded_list coded_ℕ) (coded_list coded_bool))))
+abbrev pub coded_program : Coded Program
+coded_program = code_by (ℕ × (List ℕ × (List ℕ × List Bool))) (coded× coded_ℕ (coded× (coded_list coded_ℕ) (coded× (coded_list coded_ℕ) (coded_list coded_bool))))
     (λ p. (p.width, (p.jumps, (p.code, p.mask)))) (λ p. record { width = p.0; jumps = p.1.0; code = p.1.1.0; mask = p.1.1.1 }) (λ _. refl)
 
-abbrev pub machine_code : Coded Machine
-machine_code = code_by (Program × (ℕ × (List ℕ × (Memory × (Heap × (ℕ × Schedule)))))) (coded× program_code (coded× coded_ℕ (coded× (coded_list coded_ℕ) (coded× memory_code (coded× heap_code (coded× coded_ℕ coded_schedule))))))
+abbrev pub coded_machine : Coded Machine
+coded_machine = code_by (Program × (ℕ × (List ℕ × (Memory × (Heap × (ℕ × Schedule)))))) (coded× coded_program (coded× coded_ℕ (coded× (coded_list coded_ℕ) (coded× memory_code (coded× coded_heap (coded× coded_ℕ coded_schedule))))))
     (λ m. (m.program, (m.pc, (m.registers, (m.memory, (m.heap, (m.gas, m.costs)))))))
     (λ m. record { program = m.0; pc = m.1.0; registers = m.1.1.0; memory = m.1.1.1.0; heap = m.1.1.1.1.0; gas = m.1.1.1.1.1.0; costs = m.1.1.1.1.1.1 }) (λ _. refl)

@@ -9,15 +9,17 @@ ghost use Rattle.pvm_step.specs.Named.{on_registers, changes_memory};
 use crate::attempt::Attempt;
 use crate::exit::Exit;
 use crate::machine::Machine;
+use crate::watcher::Watcher;
 use pvm_isa::Op;
 use std::alloc::AllocError;
 
 impl Machine {
     /// Does the instruction of an opcode that works on the registers alone, and of one that loads or stores a register,
-    /// where it is not refused and wants no memory; else nothing.
+    /// where it is not refused and wants no memory; else nothing. There is one for each loop of a run, since the compiler
+    /// takes it into the loop only where nothing else calls it.
     #[inline(always)]
     #[tactic(auto, unfolding(crate::specs::Effect::line, crate::specs::Named::on_registers, pvm_isa::specs::Opcodes::entry, pvm_alu::specs::Alu::binary_line, pvm_alu::specs::Alu::unary_line, pvm_alu::specs::Alu::test_line, pvm_alu::specs::Alu::widen_line, pvm_alu::specs::Alu::loaded_bytes))]
-    pub(crate) fn act_on_registers(
+    pub(crate) fn act_on_registers<const PLAIN: bool, W: Watcher>(
         &mut self,
         op: Op,
         pc: u64,

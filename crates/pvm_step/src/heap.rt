@@ -14,11 +14,11 @@ pub struct Heap {
 
 impl Model for Heap {
     ghost use Rattle.pvm_step.specs.Effect.{Heap};
-    ghost use Rattle.pvm_step.specs.Machine.{IsHeap, heap_code};
+    ghost use Rattle.pvm_step.specs.Machine.{IsHeap, coded_heap};
 
     ghost Value = { Heap };
 
-    ghost coded = { heap_code };
+    ghost coded = { coded_heap };
 
     ghost view = { λ h. record { next = h.next; end = h.end } };
 

@@ -39,11 +39,11 @@ pub struct Machine {
 }
 
 impl Model for Machine {
-    ghost use Rattle.pvm_step.specs.Machine.{Machine, machine_code};
+    ghost use Rattle.pvm_step.specs.Machine.{Machine, coded_machine};
 
     ghost Value = { Machine };
 
-    ghost coded = { machine_code };
+    ghost coded = { coded_machine };
 
     ghost view = { λ m. record { program = m.program.value; pc = m.pc; registers = m.registers; memory = m.memory; heap = m.heap; gas = m.ledger; costs = m.costs } };
 }
@@ -100,7 +100,7 @@ impl Machine {
     // The instruction, where it works on the registers alone, or is a load or a store that is allowed. Else nothing.
     #[inline(always)]
     #[tactic(auto, unfolding(crate::specs::Effect::effect))]
-    fn attempt(&mut self, at: Fetched) -> Attempt
+    fn attempt<const PLAIN: bool, W: Watcher>(&mut self, at: Fetched) -> Attempt
         requires { IsFetched self.old.program self.old.pc at }
         ensures made { is_done result ≡ true → after_of self.new (exit_after result) ≡ effect self.old.program (state_of self.old) }
         ensures next { result ≡ Next → self.new.pc ≡ at.next }
@@ -108,7 +108,7 @@ impl Machine {
         ensures beyond { result ≡ Attempt.Beyond → on_registers at.op ≡ false }
         ensures rest { ChangesStateAlone self.old self.new }
     {
-        self.act_on_registers(at.op, at.pc, at.next, at.skip, at.bytes)
+        self.act_on_registers::<PLAIN, W>(at.op, at.pc, at.next, at.skip, at.bytes)
     }
 
     // Another instruction.
@@ -202,7 +202,7 @@ impl Machine {
                 op: at.op,
                 gas: left - cost,
             });
-            match self.attempt(at) {
+            match self.attempt::<PLAIN, W>(at) {
                 Attempt::Next => pc = at.next,
                 Attempt::Jumped => pc = self.pc,
                 Attempt::Panics => return (left - cost, Ok(Some(Exit::Panic))),

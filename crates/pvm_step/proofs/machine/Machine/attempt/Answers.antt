@@ -10,4 +10,4 @@ not_done false r done beyond = refl
 not_done true r done beyond = let both : false ≡ true = sym (ap is_done beyond) ∙ done refl in absurd (cc both)
 
 pub returns-clause-beyond : goal.returns-clause-beyond
-returns-clause-beyond c = λ beyond. not_done (on_registers c.args.at.op) c.act_on_registers.result c.act_on_registers.ensures.done beyond
+returns-clause-beyond g c = λ beyond. not_done (on_registers c.args.at.op) c.act_on_registers.result c.act_on_registers.ensures.done beyond
