@@ -1,0 +1,2 @@
+pub mod PageRights
+pub mod RunList
