@@ -1,0 +1,5 @@
+pub mod Zeros
+pub mod Places
+pub mod Writing
+pub mod Bytes
+pub mod Pieces

@@ -1,0 +1,2 @@
+pub mod PageBytes
+pub mod FrameTable
