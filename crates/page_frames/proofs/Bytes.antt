@@ -7,7 +7,7 @@ use Rattle.slab.specs.Slab.{Slab, get}
 use Rattle.page_frames.specs.PageBytes.{all_zero, byte_of, overwritten, IsMarked, AreMarked}
 use Rattle.page_frames.specs.FrameTable.{zero_page, key_at, bytes_at_key, bytes_or_zero, page_bytes, byte_at, bytes_below, IsSound, PageChanged, SamePages}
 use Rattle.page_frames.proofs.Zeros.{zero_page_length, zero_byte, no_key}
-use Rattle.page_frames.proofs.Places.{length-overwritten, byte_before, byte_in_new, byte_behind}
+use Rattle.page_frames.specs.WrittenLaws.{length-overwritten, byte_before, byte_in_new, byte_behind}
 
 le_or_lt : (a b : ℕ) → (a ≤ b) ⊎ (b < a)
 le_or_lt zero b = inl (omega arith)

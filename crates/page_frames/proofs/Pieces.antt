@@ -8,7 +8,7 @@ use borrow.Rule.Slice.PartMut.{put_mid}
 use Rattle.page_frames.specs.PageBytes.{overwritten, zeroed, AreMarked}
 use Rattle.page_frames.specs.FrameTable.{zero_page, key_at, bytes_below, page_bytes, IsSound, PageChanged, HaveFrames, AreFramed}
 use Rattle.page_frames.proofs.Zeros.{zero_page_length}
-use Rattle.page_frames.proofs.Places.{written_on, nothing_written}
+use Rattle.page_frames.specs.WrittenLaws.{written_on, nothing_written}
 use Rattle.page_frames.proofs.Bytes.{below_written, part_of_page, marked, length-below, frame_size}
 
 pub split_place : (a : ℕ) → a / 4096 * 4096 + a % 4096 ≡ a

@@ -4,7 +4,7 @@ use Rattle.std.proofs.lemmas.Bool.{cases_eq}
 use Rattle.slab.specs.Slab.{Slab, get}
 use Rattle.page_frames.specs.PageBytes.{overwritten}
 use Rattle.page_frames.specs.FrameTable.{key_at, bytes_at_key, bytes_or_zero, IsSound, PageChanged, SamePages, HaveFrames}
-use Rattle.page_frames.proofs.Places.{overwritten_length}
+use Rattle.page_frames.specs.WrittenLaws.{overwritten_length}
 
 found : {A : Type 0} (o : Option A) → o ≢ None → (x : A) × (o ≡ Some x)
 found None h = absurd (h refl)

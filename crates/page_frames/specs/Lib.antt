@@ -1,2 +1,3 @@
 pub mod PageBytes
 pub mod FrameTable
+pub mod WrittenLaws

@@ -53,7 +53,7 @@ fn write_frame(frames: &mut Slab<Frame>, key: usize, place: usize, bytes: &[u8])
 }
 
 /// Writes bytes of a page that has a frame.
-#[tactic(auto, using(crate::proofs::Places::overwritten_length))]
+#[tactic(auto, using(crate::specs::WrittenLaws::overwritten_length))]
 #[inline]
 pub fn write(table: &[Level], frames: &mut Slab<Frame>, page: u32, place: usize, bytes: &[u8])
     requires sound { IsSound table.now frames.old }

@@ -1,2 +1,1 @@
 pub mod Spread
-pub mod Ranges

@@ -1,2 +1,3 @@
 pub mod PageRights
 pub mod RunList
+pub mod RangeLaws

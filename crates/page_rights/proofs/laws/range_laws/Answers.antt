@@ -1,7 +1,7 @@
 use Rattle.std.proofs.lemmas.List.{length-replicate}
 use Rattle.std.specs.Prelude.{replicate, map}
 use Rattle.page_rights.specs.PageRights.{lifted, pages_in}
-use Rattle.page_rights.proofs.Ranges.{granted_page, lifted_page, range_size, lifted_long}
+use Rattle.page_rights.specs.RangeLaws.{granted_page, lifted_page, range_size, lifted_long}
 use Rattle.page_rights.proofs.laws.range_laws.Goals as goal
 
 pub returns-clause-granted : goal.returns-clause-granted
