@@ -5,13 +5,12 @@ use Rattle.std.specs.FinMap as fin
 use Rattle.std.specs.List.{All}
 use Rattle.std.proofs.Math.Nat.{pow-le-pow_right}
 use Rattle.std.proofs.lemmas.List.Elements.{All-get_or}
-use Rattle.paged_memory.specs.declared.rights.Rights.{Rights}
-use Rattle.paged_memory.specs.declared.rights.Rights.TheVariants as may
+use Rattle.page_rights.specs.declared.rights.Rights.{Rights}
+use Rattle.page_rights.specs.declared.rights.Rights.TheVariants as may
 use Rattle.paged_memory.specs.declared.access.Access.{Access}
 use Rattle.paged_memory.specs.PageMap.{Page, Memory, HasWholePages, page_of, rights, reaches, byte_in, byte, has, addresses, forbidden, lower, least, number, all_have, bytes_from, unless, loaded, refusal}
 use Rattle.std.proofs.lemmas.List.{take_at, drop_at, drop-drop, append_assoc, length-take-le, length-drop}
-use borrow.Rule.Slice.PartMut.{put_mid}
-use Rattle.paged_memory.proofs.Numbers.{one_more}
+use Rattle.paged_memory.proofs.Spelled.{one_more}
 use Rattle.paged_memory.proofs.InPage.{split_address, all_in_page}
 
 -- the last place but some, counted from the front
@@ -39,16 +38,6 @@ lowest_same m need a k width x low h is there low_is =
     ∙ ap least (forbidden_next m need (a + k) (width - suc k) true (ap (has m need) (sym is) ∙ there))
     ∙ ap (λ (n : ℕ). least (forbidden m need (a + k) n)) (sym e)
 
-pub number_more : (m : Memory) (a k width b x : ℕ) → k < width → b ≡ byte m ((a + k) % 2 ^ 32) → x ≡ number (map (byte m) (addresses (a + suc k) (width - suc k)))
-    → b + 256 * x ≡ number (map (byte m) (addresses (a + k) (width - k)))
-unfolding number addresses
-number_more m a k width b x h is rest =
-    let e : width - k ≡ suc (width - suc k) = omega arith in
-    let s : a + k + 1 ≡ a + suc k = omega arith in
-    (λ j. is j + 256 * rest j)
-    ∙ ap (λ (y : ℕ). byte m ((a + k) % 2 ^ 32) + 256 * number (map (byte m) (addresses y (width - suc k)))) (sym s)
-    ∙ ap (λ (n : ℕ). number (map (byte m) (addresses (a + k) n))) (sym e)
-
 pub byte_small : (m : Memory) (a : ℕ) → HasWholePages m → byte m a < 256
 byte_small m a whole = elim (fin.get m (page_of a)) as (λ (o : Option Page). fin.get m (page_of a) ≡ o → byte_in o (a % 4096) < 256) [
   | None ↦ λ e. omega arith
@@ -63,11 +52,6 @@ pub number_small : (n : ℕ) (m : Memory) (a : ℕ) → HasWholePages m → numb
 unfolding number addresses
 number_small zero m a whole = omega arith
 number_small (suc n) m a whole = one_more n (byte m (a % 2 ^ 32)) (number (map (byte m) (addresses (a + 1) n))) (byte_small m (a % 2 ^ 32) whole) (number_small n m (a + 1) whole)
-
-pub small_step : (x width k b : ℕ) → k < width → b < 256 → x < 256 ^ (width - suc k) → b + 256 * x < 256 ^ (width - k)
-small_step x width k b h s t =
-    let e : width - k ≡ suc (width - suc k) = omega arith in
-    subst (λ (n : ℕ). b + 256 * x < 256 ^ n) (sym e) (one_more (width - suc k) b x s t)
 
 -- ---- Ranges in pieces
 
@@ -86,16 +70,6 @@ all_have-add (suc n) m need a k =
     ∙ ap (λ (x : ℕ). has m need a && (all_have m need (a + 1) n && all_have m need x k)) s
     ∙ regrouped (has m need a) (all_have m need (a + 1) n) (all_have m need (a + suc n) k)
 
-pub bytes_from-add : (n : ℕ) (m : Memory) (a k : ℕ) → bytes_from m a (n + k) ≡ bytes_from m a n ++ bytes_from m (a + n) k
-unfolding bytes_from
-bytes_from-add zero m a k = ap (λ (x : ℕ). bytes_from m a x) (omega arith) ∙ ap (λ (x : ℕ). bytes_from m x k) (omega arith)
-bytes_from-add (suc n) m a k =
-    let e : suc n + k ≡ suc (n + k) = omega arith in
-    let s : a + 1 + n ≡ a + suc n = omega arith in
-    ap (λ (x : ℕ). bytes_from m a x) e
-    ∙ ap (λ (xs : List ℕ). byte m a ∷ xs) (bytes_from-add n m (a + 1) k)
-    ∙ ap (λ (x : ℕ). byte m a ∷ (bytes_from m (a + 1) n ++ bytes_from m x k)) s
-
 -- ---- For a count that falls by one
 
 prev : (P : ℕ → Type 0) (k : ℕ) → 0 < k → P k → P (suc (k - 1))
@@ -111,28 +85,9 @@ pub lowest_same_at : (m : Memory) (need : Rights) (a k width x : ℕ) (low : Opt
 lowest_same_at m need a k width x low h room is there low_is =
     lowest_same m need a (k - 1) width x low (omega arith) is there (prev (λ (j : ℕ). low ≡ least (forbidden m need (a + j) (width - j))) k h low_is)
 
-pub number_more_at : (m : Memory) (a k width b x : ℕ) → 0 < k → k ≤ width → b ≡ byte m ((a + (k - 1)) % 2 ^ 32) → x ≡ number (map (byte m) (addresses (a + k) (width - k)))
-    → b + 256 * x ≡ number (map (byte m) (addresses (a + (k - 1)) (width - (k - 1))))
-number_more_at m a k width b x h room is rest =
-    number_more m a (k - 1) width b x (omega arith) is (prev (λ (j : ℕ). x ≡ number (map (byte m) (addresses (a + j) (width - j)))) k h rest)
-
-pub small_step_at : (x width k b : ℕ) → 0 < k → k ≤ width → b < 256 → x < 256 ^ (width - k) → b + 256 * x < 256 ^ (width - (k - 1))
-small_step_at x width k b h room s t = small_step x width (k - 1) b (omega arith) s (prev (λ (j : ℕ). x < 256 ^ (width - j)) k h t)
-
--- at most eight bytes fit 64 bits
-pub fits_step : (x width k : ℕ) → 0 < k → width ≤ 8 → x < 256 ^ (width - k) → x < 256 ^ 7
-fits_step x width k h eight s = let p : 256 ^ (width - k) ≤ 256 ^ 7 = pow-le-pow_right {n = 256} (omega arith) {i = width - k} {j = 7} (omega arith) in omega arith
-
 pub none_at_end : (m : Memory) (need : Rights) (a width : ℕ) → None ≡ least (forbidden m need (a + width) (width - width))
 unfolding addresses
 none_at_end m need a width = let e : width - width ≡ 0 = omega arith in rw e refl
-
-pub zero_at_end : (m : Memory) (a width : ℕ) → 0 ≡ number (map (byte m) (addresses (a + width) (width - width)))
-unfolding number addresses
-zero_at_end m a width = let e : width - width ≡ 0 = omega arith in rw e refl
-
-pub below_one : (width : ℕ) → 0 < 256 ^ (width - width)
-below_one width = let e : width - width ≡ 0 = omega arith in rw e (omega arith)
 
 -- ---- Piece by piece
 
@@ -150,27 +105,6 @@ has_piece m need a n count r le room =
 pub nothing_left : (m : Memory) (need : Rights) (a n : ℕ) → n ≤ 0 → all_have m need a n ≡ true
 unfolding all_have
 nothing_left m need a n h = let e : n ≡ 0 = omega arith in rw e refl
-
-pub length-bytes_from : (n : ℕ) (m : Memory) (a : ℕ) → length (bytes_from m a n) ≡ n
-unfolding bytes_from
-length-bytes_from zero m a = refl
-length-bytes_from (suc n) m a = ap suc (length-bytes_from n m (a + 1))
-
-pub bytes_from-none : (m : Memory) (a : ℕ) → bytes_from m a 0 ≡ []
-unfolding bytes_from
-bytes_from-none m a = refl
-
-pub read_more : (m : Memory) (a done count k x : ℕ) (old buf piece : List ℕ) → buf ≡ bytes_from m a done ++ drop done old → length buf ≡ length old → done + count ≤ length old → k ≡ count → x ≡ a + done
-    → piece ≡ bytes_from m x (length (take k (drop done buf))) → put_mid done k buf piece ≡ bytes_from m a (done + count) ++ drop (done + count) old
-read_more m a done count k x old buf piece is same room ek ex new =
-    let taken : length (take k (drop done buf)) ≡ count = length-take-le k (drop done buf) (omega (arith, length-drop done buf)) ∙ ek in
-    let front : take done buf ≡ bytes_from m a done = ap (take done) is ∙ take_at (bytes_from m a done) (drop done old) done (length-bytes_from done m a) in
-    let middle : piece ≡ bytes_from m (a + done) count = new ∙ (λ j. bytes_from m (ex j) (taken j)) in
-    let rest : drop done buf ≡ drop done old = ap (drop done) is ∙ drop_at (bytes_from m a done) (drop done old) done (length-bytes_from done m a) in
-    let back : drop k (drop done buf) ≡ drop (done + count) old = (λ j. drop (ek j) (rest j)) ∙ drop-drop count done old in
-    (λ j. front j ++ (middle j ++ back j))
-    ∙ sym (append_assoc (bytes_from m a done) (bytes_from m (a + done) count) (drop (done + count) old))
-    ∙ ap (λ (xs : List ℕ). xs ++ drop (done + count) old) (sym (bytes_from-add done m a count))
 
 unless_small : (o : Option Access) (x bound : ℕ) → x < bound → IfOk (unless o x) (λ value. value < bound)
 unless_small None x bound h = h

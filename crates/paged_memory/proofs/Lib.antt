@@ -1,10 +1,12 @@
 pub mod ByteLaws
 pub mod InPage
 pub mod Maps
-pub mod Numbers
-pub mod RangeLaws
+pub mod Spelled
+pub mod PageLaws
+pub mod Parts
+pub mod Ranges
 pub mod ReadBack
 pub mod RefusalLaws
-pub mod Visible
+pub mod Sight
 pub mod Whole
-pub mod WriteLaws
+pub mod Writing

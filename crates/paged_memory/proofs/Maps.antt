@@ -1,16 +1,13 @@
--- Look-ups in finite maps by numbers, and the frames seen as such a map.
+-- Look-ups in finite maps by numbers.
 use Rattle.std.proofs.Common.{◌≡◌, ◌≢◌, ◌⊎◌, inl, inr, ℕ, Bool, true, false, cond, List, [], ◌∷◌, Some, None, Option, refl, sym, ap, subst, ◌∙◌, Ordering}
-use Rattle.std.specs.Prelude.{T, IsSome}
+use Rattle.std.specs.Prelude.{T}
 use Rattle.std.specs.declared.cmp.Ordering.TheVariants.{Less, Equal, Greater}
 use Rattle.std.specs.Ordering.{nat_cmp, eq_by_cmp, is_eq}
 use Rattle.std.specs.Cmp.{nat_cmp_total, eq_by_cmp_equiv}
-use Rattle.std.specs.BTreeMap.{BTreeMap, is_at}
-use Rattle.std.specs.BTreeMap as tree
-use Rattle.std.specs.Map.{lookup}
 use Rattle.std.specs.FinMap as fin
 use Rattle.std.specs.FinMap.{nat_cmp-IsAntisymmetric}
 use Rattle.paged_memory.specs.PageMap.{Page, Memory}
-use Rattle.paged_memory.specs.Seen.{Frame, visible, placed, seen}
+use Rattle.paged_memory.specs.Seen.{placed}
 
 equal : (r : Ordering) → is_eq r ≡ true → r ≡ Equal
 equal Less h = absurd (subst T (sym h) tt)
@@ -65,48 +62,3 @@ pub placed_twice : (m : Memory) (k : ℕ) (a b : Option Page) → placed (placed
 placed_twice m k a b = alike (placed (placed m k a) k b) (placed m k b) (λ q.
     get-placed (placed m k a) k b q ∙ ap (cond (eq_by_cmp nat_cmp q k) b) (get-placed m k a q)
     ∙ twice (eq_by_cmp nat_cmp q k) b a (fin.get m q) ∙ sym (get-placed m k b q))
-
--- what is seen of a frame or none
-abbrev pub shown : Option Frame → Option Page
-shown None = None
-shown (Some frame) = visible frame
-
-shown-cond : (b : Bool) (x y : Option Frame) → shown (cond b x y) ≡ cond b (shown x) (shown y)
-shown-cond true x y = refl
-shown-cond false x y = refl
-
-pub got_in : (es : List (ℕ × Frame)) (q : ℕ) → fin.get (seen es) q ≡ shown (lookup (is_at (nat_cmp q)) es)
-unfolding seen
-got_in [] q = fin.get-empty nat_cmp q
-got_in (e ∷ es) q =
-    get-placed (seen es) e.0 (visible e.1) q ∙ ap (cond (eq_by_cmp nat_cmp q e.0) (visible e.1)) (got_in es q)
-    ∙ sym (shown-cond (is_at (nat_cmp q) e.0) (Some e.1) (lookup (is_at (nat_cmp q)) es))
-
--- what is seen at a page
-pub got : (m : BTreeMap ℕ Frame) (q : ℕ) → fin.get (seen m.entries) q ≡ shown (tree.get nat_cmp m q)
-got m q = got_in m.entries q
-
-pub got_some : (m : BTreeMap ℕ Frame) (q : ℕ) (f : Frame) → tree.get nat_cmp m q ≡ Some f → fin.get (seen m.entries) q ≡ visible f
-got_some m q f h = got m q ∙ ap shown h
-
-pub got_none : (m : BTreeMap ℕ Frame) (q : ℕ) → tree.get nat_cmp m q ≡ None → fin.get (seen m.entries) q ≡ None
-got_none m q h = got m q ∙ ap shown h
-
--- a change of the frames at a page
-pub changed : (m n : BTreeMap ℕ Frame) (k : ℕ) (o : Option Frame) → tree.Updates nat_cmp m n k o → seen n.entries ≡ placed (seen m.entries) k (shown o)
-changed m n k o u = alike (seen n.entries) (placed (seen m.entries) k (shown o)) (λ q.
-    got n q ∙ ap shown (u.0 q) ∙ shown-cond (is_at (nat_cmp k) q) o (tree.get nat_cmp m q)
-    ∙ ap (λ b. cond b (shown o) (shown (tree.get nat_cmp m q))) ((eq_by_cmp_equiv nat_cmp_total).symm k q)
-    ∙ sym (get-placed (seen m.entries) k (shown o) q ∙ ap (cond (eq_by_cmp nat_cmp q k) (shown o)) (got m q)))
-
--- a change that is not seen
-pub unseen : (m n : BTreeMap ℕ Frame) (k : ℕ) (o : Option Frame) → tree.Updates nat_cmp m n k o → shown (tree.get nat_cmp m k) ≡ shown o → seen n.entries ≡ seen m.entries
-unseen m n k o u h = changed m n k o u ∙ placed_same (seen m.entries) k (shown o) (got m k ∙ h)
-
-some_cond : {A : Type 0} (b : Bool) (x : A) (o : Option A) → IsSome o → IsSome (cond b (Some x) o)
-some_cond true x o h = refl
-some_cond false x o h = h
-
--- frames stay where one changes or comes
-pub frame_stays : (m n : BTreeMap ℕ Frame) (k : ℕ) (f : Frame) → tree.Updates nat_cmp m n k (Some f) → (q : ℕ) → IsSome (tree.get nat_cmp m q) → IsSome (tree.get nat_cmp n q)
-frame_stays m n k f u q h = subst (λ o. IsSome o) (sym (u.0 q)) (some_cond (is_at (nat_cmp k) q) f (tree.get nat_cmp m q) h)

@@ -8,11 +8,11 @@ use Rattle.std.proofs.lemmas.Nat.{div-add-mod'}
 use Rattle.std.proofs.lemmas.List.{get_or-set_same, get_or-set_other, length-set}
 use Rattle.std.proofs.lemmas.List.Elements.{All-set, All-head, All-tail}
 use Rattle.std.proofs.lemmas.Bool.{cases_eq}
-use Rattle.paged_memory.specs.declared.rights.Rights.{Rights}
-use Rattle.paged_memory.specs.declared.rights.Rights.TheVariants as may
+use Rattle.page_rights.specs.declared.rights.Rights.{Rights}
+use Rattle.page_rights.specs.declared.rights.Rights.TheVariants as may
 use Rattle.paged_memory.specs.PageMap.{Page, Memory, IsPage, HasWholePages, page_of, rights_in, rights, byte_in, byte, reaches, has, addresses, forbidden, refusal, least, access_at, unless, loaded, number, bytes_of, put_in, put_byte, put_bytes}
 use Rattle.paged_memory.proofs.Maps.{inserted_there, inserted_other}
-use Rattle.paged_memory.proofs.Numbers.{length-bytes_of}
+use Rattle.paged_memory.proofs.Spelled.{length-bytes_of}
 use Rattle.paged_memory.proofs.Whole.{whole_inserted, small_bytes}
 use Rattle.paged_memory.proofs.RefusalLaws.{allowed_law}
 
@@ -64,7 +64,7 @@ other_law m a b x apart = other_in m a b x (fin.get m (page_of a)) refl apart
 
 -- ---- Many bytes
 
-untouched : (bs : List ℕ) (m : Memory) (from a : ℕ) → ((k : ℕ) → k < length bs → a ≢ (from + k) % 2 ^ 32) → byte (put_bytes m from bs) a ≡ byte m a
+pub untouched : (bs : List ℕ) (m : Memory) (from a : ℕ) → ((k : ℕ) → k < length bs → a ≢ (from + k) % 2 ^ 32) → byte (put_bytes m from bs) a ≡ byte m a
 unfolding put_bytes
 untouched [] m from a apart = refl
 untouched (b ∷ bs) m from a apart =
@@ -102,7 +102,7 @@ readable_too (suc n) m from h =
     let free : (has m may.Write (from % 2 ^ 32) ≡ true) × (forbidden m may.Write (from + 1) n ≡ []) = first_free (has m may.Write (from % 2 ^ 32)) (from % 2 ^ 32) (forbidden m may.Write (from + 1) n) h in
     nothing_first (has m may.Read (from % 2 ^ 32)) (from % 2 ^ 32) (forbidden m may.Read (from + 1) n) (write_reads (rights m (page_of (from % 2 ^ 32))) free.0) (readable_too n m (from + 1) free.1)
 
-whole_in : (m : Memory) (a b : ℕ) (o : Option Page) → fin.get m (page_of a) ≡ o → HasWholePages m → b < 256 → HasWholePages (put_in m a o b)
+pub whole_in : (m : Memory) (a b : ℕ) (o : Option Page) → fin.get m (page_of a) ≡ o → HasWholePages m → b < 256 → HasWholePages (put_in m a o b)
 whole_in m a b None e whole small = whole
 whole_in m a b (Some page) e whole small =
     let is : IsPage (page_of a) page = whole (page_of a) page e in

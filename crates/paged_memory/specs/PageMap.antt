@@ -4,8 +4,9 @@ use Rattle.std.specs.Prelude.{◌≡◌, ℕ, zero, suc, ◌+◌, ◌*◌, ◌/�
 use Rattle.std.specs.List.{filter, All}
 use Rattle.std.specs.Ordering.{nat_cmp}
 use Rattle.std.specs.FinMap as fin
-use Rattle.paged_memory.specs.declared.rights.Rights.{Rights}
-use Rattle.paged_memory.specs.declared.rights.Rights.TheVariants as may
+use Rattle.page_rights.specs.declared.rights.Rights.{Rights}
+pub use Rattle.page_rights.specs.PageRights.{reaches}
+use Rattle.page_rights.specs.declared.rights.Rights.TheVariants as may
 use Rattle.paged_memory.specs.declared.access.Access.{Access}
 use Rattle.paged_memory.specs.declared.access.Access.TheVariants.{Low, Fault}
 
@@ -57,15 +58,6 @@ abbrev pub byte : Memory → ℕ → ℕ
 byte m address = byte_in (fin.get m (page_of address)) (address % 4096)
 
 -- ---- What is forbidden
-
--- rights rise from No over Read to Write
-abbrev pub rank : Rights → ℕ
-rank may.No = 0
-rank may.Read = 1
-rank may.Write = 2
-
-abbrev pub reaches : Rights → Rights → Bool
-reaches have need = nat_le (rank need) (rank have)
 
 -- the page of an address has the right
 abbrev pub has : Memory → Rights → ℕ → Bool
@@ -165,6 +157,17 @@ blank = replicate 4096 0
 abbrev pub bytes_in : Option Page → List ℕ
 bytes_in None = blank
 bytes_in (Some page) = page.bytes
+
+-- a page or none where it is given rights
+abbrev pub page_set : Rights → Bool → Option Page → Option Page
+page_set may.No keep page = None
+page_set may.Read keep page = Some (record { right = Read; bytes = if keep then bytes_in page else blank })
+page_set may.Write keep page = Some (record { right = Write; bytes = if keep then bytes_in page else blank })
+
+-- a page or none where it is lifted
+abbrev pub page_lifted : Option Page → Option Page
+page_lifted None = Some (record { right = Write; bytes = blank })
+page_lifted (Some page) = Some page
 
 -- the memory with other rights of one page. Its bytes become 0 unless they are kept
 abbrev pub set_page : Memory → ℕ → Rights → Bool → Memory

@@ -1,56 +1,41 @@
--- The frames that the program keeps, seen as a memory.
-use Rattle.std.specs.Prelude.{ℕ, ◌+◌, ◌≤◌, ◌<◌, Bool, false, List, [], ◌∷◌, ◌++◌, length, take, drop, Option, Some, None, IsSome, if◌then◌else◌}
-use Rattle.std.specs.Ordering.{nat_cmp}
-use Rattle.std.specs.BTreeMap.{BTreeMap}
-use Rattle.std.specs.BTreeMap as tree
+-- The rights and bytes that the program keeps, seen as a memory.
+use Rattle.std.specs.Prelude.{◌≡◌, ℕ, suc, ◌*◌, ◌/◌, ◌<◌, ◌^◌, List, [], ◌∷◌, length, take, drop, Option, Some, None}
+use Rattle.std.specs.List.{All}
 use Rattle.std.specs.FinMap as fin
-use Rattle.paged_memory.specs.declared.rights.Rights.{Rights}
-use Rattle.paged_memory.specs.declared.rights.Rights.TheVariants as may
-use Rattle.paged_memory.specs.PageMap.{Read, Write, Page, Memory, reaches, blank}
+use Rattle.page_rights.specs.declared.rights.Rights.{Rights}
+use Rattle.page_rights.specs.declared.rights.Rights.TheVariants as may
+use Rattle.page_rights.specs.PageRights.{right_of_page}
+use Rattle.page_frames.specs.PageBytes.{byte_of}
+use Rattle.paged_memory.specs.declared.pages.Pages.{Pages}
+use Rattle.paged_memory.specs.PageMap.{Read, Write, Page, Memory}
 
--- a page's rights and bytes; one whose rights are No is as if it were not there
-pub record Frame : Type 0 where
-  pub rights : Rights
-  pub bytes : List ℕ
-
+-- a page with these rights and bytes, which is not there where it has none
 abbrev pub visible_as : Rights → List ℕ → Option Page
 visible_as may.No bytes = None
 visible_as may.Read bytes = Some (record { right = Read; bytes = bytes })
 visible_as may.Write bytes = Some (record { right = Write; bytes = bytes })
-
-abbrev pub visible : Frame → Option Page
-visible frame = visible_as frame.rights frame.bytes
 
 -- the memory with a page, or without it
 abbrev pub placed : Memory → ℕ → Option Page → Memory
 placed m number None = fin.remove m number
 placed m number (Some page) = fin.insert m number page
 
-unfoldable pub seen : List (ℕ × Frame) → Memory
-seen [] = fin.empty
-seen (e ∷ es) = placed (seen es) e.0 (visible e.1)
+-- the bytes of one page
+abbrev pub part_of : List ℕ → ℕ → List ℕ
+part_of bytes page = take 4096 (drop (page * 4096) bytes)
 
--- bytes with others in the place of those from a place on
-abbrev pub spliced : List ℕ → ℕ → List ℕ → List ℕ
-spliced bytes place new = take place bytes ++ new ++ drop (place + length new) bytes
+-- the pages from a number on
+unfoldable pub seen_from : ℕ → List Rights → List ℕ → Memory
+seen_from number [] bytes = fin.empty
+seen_from number (rights ∷ rest) bytes = placed (seen_from (suc number) rest bytes) number (visible_as rights (part_of bytes number))
 
-abbrev pub can_store : Option Frame → Bool
-can_store None = false
-can_store (Some frame) = reaches frame.rights may.Write
+abbrev pub seen : Pages → Memory
+seen pages = seen_from 0 pages.rights pages.bytes
 
--- a frame with bytes in place of those from a place on, if it may be written
-abbrev pub stored : Frame → ℕ → List ℕ → Frame
-stored frame place new = if reaches frame.rights may.Write then record frame { bytes = spliced frame.bytes place new } else frame
-
--- a frame without rights may be written, and is 0
-abbrev pub lifted_as : Rights → List ℕ → Frame
-lifted_as may.No bytes = record { rights = may.Write; bytes = blank }
-lifted_as may.Read bytes = record { rights = may.Read; bytes = bytes }
-lifted_as may.Write bytes = record { rights = may.Write; bytes = bytes }
-
-abbrev pub lifted : Frame → Frame
-lifted frame = lifted_as frame.rights frame.bytes
-
--- each of count pages from the first on has a frame
-abbrev pub HaveFrames : BTreeMap ℕ Frame → ℕ → ℕ → Type 0
-HaveFrames frames first count = (page : ℕ) → first ≤ page → page < first + count → IsSome (tree.get nat_cmp frames page)
+-- there are all pages and addresses, the 16 lowest pages have no rights, and pages without rights are zero
+pub record IsWhole (all : Pages) : Type 0 where
+  pub pages : length all.rights ≡ 2 ^ 20
+  pub addresses : length all.bytes ≡ 2 ^ 32
+  pub small : All (λ byte. byte < 256) all.bytes
+  pub low : (page : ℕ) → page < 16 → right_of_page all.rights page ≡ may.No
+  pub hidden : (address : ℕ) → right_of_page all.rights (address / 4096) ≡ may.No → byte_of all.bytes address ≡ 0

@@ -2,16 +2,14 @@
 #![tactic(auto)]
 
 mod access;
-mod frame;
-mod frames;
 mod laws;
 mod memory;
-mod ranges;
+mod numbers;
+mod pages;
 mod reads;
-mod rights;
 mod writes;
 
 pub use access::{Access, StoreRefusal};
-pub use laws::{refusal_laws, write_laws};
+pub use laws::{accessible_laws, page_laws, refusal_laws, write_laws};
 pub use memory::Memory;
-pub use rights::Rights;
+pub use page_rights::Rights;

@@ -1,14 +1,14 @@
 // The memory as its callers see it.
 ghost use Rattle.std.specs.Prelude.{◌≡◌, ◌+◌, ◌≤◌, ◌<◌, ◌^◌, ◌↔◌, Some, None, Err, IsTrue, IfOk, OnOk, OnErr, length};
 ghost use Rattle.std.specs.FinMap as fin;
-ghost use Rattle.paged_memory.specs.declared.rights.Rights.TheVariants as may;
+ghost use Rattle.page_rights.specs.declared.rights.Rights.TheVariants as may;
 ghost use Rattle.paged_memory.specs.PageMap.{HasWholePages, HaveRights, rights, is_width, loaded, refusal, put_bytes, bytes_of, bytes_from, readable, writable, set_pages, lift_pages};
 
-use crate::frame::Frame;
-use crate::ranges::{drop_pages, lift_pages, make_frames, set_pages};
+use crate::pages::Pages;
 use crate::{Access, Rights, StoreRefusal, reads, writes};
+use page_frames::Frames;
+use page_rights::Runs;
 use std::alloc::{AllocError, Global};
-use std::collections::BTreeMap;
 use std::marker::Model;
 
 /// A machine's memory: 2^20 pages of 4,096 bytes, each with its rights. The 16 lowest pages never
@@ -16,21 +16,21 @@ use std::marker::Model;
 #[derive(Drop)]
 pub struct Memory {
     alloc: Global,
-    frames: BTreeMap<u32, Frame>,
+    pages: Pages,
 }
 
 impl Model for Memory {
-    ghost use Rattle.paged_memory.specs.PageMap.{Memory, HasWholePages};
+    ghost use Rattle.paged_memory.specs.PageMap.{Memory};
     ghost use Rattle.paged_memory.specs.Codes.{memory_code};
-    ghost use Rattle.paged_memory.specs.Seen.{seen};
+    ghost use Rattle.paged_memory.specs.Seen.{seen, IsWhole};
 
     ghost Value = { Memory };
 
     ghost coded = { memory_code };
 
-    ghost view = { λ m. seen m.frames.entries };
+    ghost view = { λ m. seen m.pages };
 
-    ghost invariant = { λ m. HasWholePages (seen m.frames.entries) };
+    ghost invariant = { λ m. IsWhole m.pages };
 }
 
 impl Memory {
@@ -40,7 +40,10 @@ impl Memory {
     {
         Memory {
             alloc,
-            frames: BTreeMap::new(alloc),
+            pages: Pages {
+                rights: Runs::new(alloc),
+                bytes: Frames::new(alloc),
+            },
         }
     }
 
@@ -55,7 +58,7 @@ impl Memory {
         ensures value { result ≡ rights self.now page }
         ensures whole { HasWholePages self.now }
     {
-        reads::rights_of(&self.frames, page)
+        reads::rights_of(&self.pages, page)
     }
 
     /// The number of the `width` bytes at an address, the lowest first. Addresses are modulo 2^32.
@@ -69,7 +72,7 @@ impl Memory {
         ensures value { result ≡ loaded self.now addr width }
         ensures bounded { IfOk result (λ value. value < 256 ^ width) }
     {
-        reads::load(&self.frames, addr, width)
+        reads::load(&self.pages, addr, width)
     }
 
     /// Stores the `width` low bytes of a number, the lowest first. Addresses are modulo 2^32.
@@ -85,21 +88,21 @@ impl Memory {
         ensures refused { (access : Access) → (result ≡ Err (StoreRefusal.Access access)) ↔ (refusal self.old may.Write addr width ≡ Some access) }
         ensures err { OnErr result (self.new ≡ self.old) }
     {
-        writes::store(&mut self.frames, addr, width, value)
+        writes::store(&mut self.pages, addr, width, value)
     }
 
     /// Whether `n` bytes may be read: there are none, or they end at or below 2^32 and each may.
     pub fn readable(&self, addr: u64, n: u64) -> bool
         ensures { result ≡ readable self.now addr n }
     {
-        reads::accessible(&self.frames, addr, n, Rights::Read)
+        reads::accessible(&self.pages, addr, n, Rights::Read)
     }
 
     /// Whether `n` bytes may be written: there are none, or they end at or below 2^32 and each may.
     pub fn writable(&self, addr: u64, n: u64) -> bool
         ensures { result ≡ writable self.now addr n }
     {
-        reads::accessible(&self.frames, addr, n, Rights::Write)
+        reads::accessible(&self.pages, addr, n, Rights::Write)
     }
 
     /// Reads bytes that may be read.
@@ -107,9 +110,9 @@ impl Memory {
         requires { IsTrue (readable self.now addr (length buf.old)) }
         ensures { buf.new ≡ bytes_from self.now addr (length buf.old) }
     {
-        let frames = &self.frames;
+        let pages = &self.pages;
         if !buf.is_empty() {
-            reads::read(frames, addr, buf);
+            reads::read(pages, addr as u32, buf);
         }
     }
 
@@ -122,8 +125,10 @@ impl Memory {
         ensures ok { OnOk result (self.new ≡ put_bytes self.old addr bytes.now) }
         ensures err { OnErr result (self.new ≡ self.old) }
     {
-        writes::put_at(&mut self.frames, addr, bytes);
-        Ok(())
+        if bytes.is_empty() {
+            return Ok(());
+        }
+        writes::put(&mut self.pages, addr as u32, bytes)
     }
 
     /// Writes bytes that may be read, to lay out pages that may not be written.
@@ -135,8 +140,10 @@ impl Memory {
         ensures ok { OnOk result (self.new ≡ put_bytes self.old addr bytes.now) }
         ensures err { OnErr result (self.new ≡ self.old) }
     {
-        writes::put_at(&mut self.frames, addr, bytes);
-        Ok(())
+        if bytes.is_empty() {
+            return Ok(());
+        }
+        writes::put(&mut self.pages, addr as u32, bytes)
     }
 
     /// Gives each of `count` pages these rights. Their bytes become 0 unless they are kept; with
@@ -157,13 +164,7 @@ impl Memory {
         ensures ok { OnOk result (self.new ≡ set_pages self.old first count rights keep) }
         ensures err { OnErr result (self.new ≡ self.old) }
     {
-        if matches!(rights, Rights::No) {
-            drop_pages(&mut self.frames, first, count, keep);
-            return Ok(());
-        }
-        make_frames(self.alloc, &mut self.frames, first, count)?;
-        set_pages(&mut self.frames, first, count, rights, keep);
-        Ok(())
+        writes::set_range(&mut self.pages, first, count, rights, keep)
     }
 
     /// Lets each of `count` pages that has no rights be written, and makes it 0. Others stay.
@@ -176,8 +177,6 @@ impl Memory {
         ensures ok { OnOk result (self.new ≡ lift_pages self.old first count) }
         ensures err { OnErr result (self.new ≡ self.old) }
     {
-        make_frames(self.alloc, &mut self.frames, first, count)?;
-        lift_pages(&mut self.frames, first, count);
-        Ok(())
+        writes::lift_range(&mut self.pages, first, count)
     }
 }

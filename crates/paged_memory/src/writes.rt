@@ -1,112 +1,85 @@
-// What is written to frames.
-ghost use Rattle.std.specs.Prelude.{◌≡◌, ◌≢◌, ◌+◌, ◌*◌, ◌%◌, ◌≤◌, ◌<◌, ◌^◌, ◌↔◌, true, false, Some, None, Err, IsTrue, OnOk, OnErr, length};
-ghost use Rattle.paged_memory.specs.declared.rights.Rights.TheVariants as may;
-ghost use Rattle.paged_memory.specs.PageMap.{bytes_of, is_width, HasWholePages, put_bytes, refusal};
-ghost use Rattle.paged_memory.specs.Seen.{seen};
+// What is written to the pages.
+ghost use Rattle.std.specs.Prelude.{◌≡◌, ◌+◌, ◌≤◌, ◌<◌, ◌^◌, ◌↔◌, ◌&&◌, ℕ, true, Some, None, Err, IsTrue, OnOk, OnErr, length};
+ghost use Rattle.page_rights.specs.declared.rights.Rights.TheVariants as may;
+ghost use Rattle.paged_memory.specs.PageMap.{bytes_of, is_width, has, reaches, put_bytes, refusal, set_pages, lift_pages, HaveRights};
+ghost use Rattle.paged_memory.specs.Seen.{seen, IsWhole};
 
-use crate::frame::{Frame, PAGE};
-use crate::frames::{put_in, store_in};
+use crate::pages::Pages;
 use crate::reads::refusal;
 use crate::{Access, Rights, StoreRefusal};
-use std::collections::BTreeMap;
+use std::alloc::AllocError;
 
-fn put_piece(frames: &mut BTreeMap<u32, Frame>, page: u32, place: usize, bytes: &[u8])
-    requires page { page < 2 ^ 20 }
-    requires room { place + length bytes.now ≤ 4096 }
-    requires whole { HasWholePages (seen frames.old.entries) }
-    ensures after { seen frames.new.entries ≡ put_bytes (seen frames.old.entries) (page * 4096 + place) bytes.now }
-    ensures whole { HasWholePages (seen frames.new.entries) }
-{
-    put_in(frames, page, place, bytes);
-}
-
-/// Writes bytes from an address on, modulo 2^32, where the pages are there.
-pub fn put(frames: &mut BTreeMap<u32, Frame>, from: u32, bytes: &[u8])
-    requires { HasWholePages (seen frames.old.entries) }
-    ensures after { seen frames.new.entries ≡ put_bytes (seen frames.old.entries) from bytes.now }
-    ensures whole { HasWholePages (seen frames.new.entries) }
-{
-    let mut address = from;
-    let mut rest = bytes;
-    'pieces: while !rest.is_empty() {
-        let place = (address % PAGE) as usize;
-        let count = rest.len().min(4096 - place);
-        put_piece(frames, address / PAGE, place, &rest[..count]);
-        address = address.wrapping_add(count as u32);
-        rest = &rest[count..];
-    }
-}
-
-/// The same from an address of 64 bits on, where none is past the end.
-pub fn put_at(frames: &mut BTreeMap<u32, Frame>, from: u64, bytes: &[u8])
-    requires room { 0 < length bytes.now → from + length bytes.now ≤ 2 ^ 32 }
-    requires whole { HasWholePages (seen frames.old.entries) }
-    ensures after { seen frames.new.entries ≡ put_bytes (seen frames.old.entries) from bytes.now }
-    ensures whole { HasWholePages (seen frames.new.entries) }
-{
-    if !bytes.is_empty() {
-        put(frames, from as u32, bytes);
-    }
-}
-
-// A store whose bytes lie in one page, if it may be written.
+/// Writes bytes of pages that have rights, from an address on.
 #[inline]
-fn store_here(frames: &mut BTreeMap<u32, Frame>, addr: u32, width: u8, value: u64) -> bool
-    requires size { IsTrue (is_width width) }
-    requires whole { HasWholePages (seen frames.old.entries) }
-    ensures allowed { IsTrue result → refusal (seen frames.old.entries) may.Write addr width ≡ None }
-    ensures made { IsTrue result → seen frames.new.entries ≡ put_bytes (seen frames.old.entries) addr (bytes_of width value) }
-    ensures same { result ≡ false → seen frames.new.entries ≡ seen frames.old.entries }
-    ensures whole { HasWholePages (seen frames.new.entries) }
+pub fn put(held: &mut Pages, from: u32, bytes: &[u8]) -> Result<(), AllocError>
+    requires room { from + length bytes.now ≤ 2 ^ 32 }
+    requires there { (address : ℕ) → from ≤ address → address < from + length bytes.now → has (seen held.old) may.Read address ≡ true }
+    requires whole { IsWhole held.old }
+    ensures ok { OnOk result (seen held.new ≡ put_bytes (seen held.old) from bytes.now) }
+    ensures err { OnErr result (seen held.new ≡ seen held.old) }
+    ensures whole { IsWhole held.new }
 {
-    let place = (addr % PAGE) as usize;
-    if place + usize::from(width) > 4096 {
-        return false;
-    }
-    store_in(frames, addr / PAGE, place, width, value)
+    held.bytes.write(from, bytes)
 }
 
-// A store over the end of a page, or one that is refused.
-#[cold]
-fn store_anywhere(
-    frames: &mut BTreeMap<u32, Frame>,
-    addr: u32,
-    width: u8,
-    value: u64,
-) -> Result<(), StoreRefusal>
+/// Stores the low bytes of a number. Room for all of them is made before the first is written.
+#[inline]
+pub fn store(held: &mut Pages, addr: u32, width: u8, value: u64) -> Result<(), StoreRefusal>
     requires size { IsTrue (is_width width) }
-    requires whole { HasWholePages (seen frames.old.entries) }
-    ensures ok { OnOk result (seen frames.new.entries ≡ put_bytes (seen frames.old.entries) addr (bytes_of width value)) }
-    ensures allowed { OnOk result (refusal (seen frames.old.entries) may.Write addr width ≡ None) }
-    ensures refused { (access : Access) → (result ≡ Err (StoreRefusal.Access access)) ↔ (refusal (seen frames.old.entries) may.Write addr width ≡ Some access) }
-    ensures err { OnErr result (seen frames.new.entries ≡ seen frames.old.entries) }
-    ensures whole { HasWholePages (seen frames.new.entries) }
+    requires whole { IsWhole held.old }
+    ensures ok { OnOk result (seen held.new ≡ put_bytes (seen held.old) addr (bytes_of width value)) }
+    ensures allowed { OnOk result (refusal (seen held.old) may.Write addr width ≡ None) }
+    ensures refused { (access : Access) → (result ≡ Err (StoreRefusal.Access access)) ↔ (refusal (seen held.old) may.Write addr width ≡ Some access) }
+    ensures err { OnErr result (seen held.new ≡ seen held.old) }
+    ensures whole { IsWhole held.new }
 {
-    if let Some(access) = refusal(frames, addr, width, Rights::Write) {
+    if let Some(access) = refusal(held, addr, width, Rights::Write) {
         return Err(StoreRefusal::Access(access));
     }
     let bytes = value.to_le_bytes();
-    put(frames, addr, &bytes[..usize::from(width)]);
+    put(held, addr, &bytes[..usize::from(width)])?;
     Ok(())
 }
 
-#[inline]
-pub fn store(
-    frames: &mut BTreeMap<u32, Frame>,
-    addr: u32,
-    width: u8,
-    value: u64,
-) -> Result<(), StoreRefusal>
-    requires size { IsTrue (is_width width) }
-    requires whole { HasWholePages (seen frames.old.entries) }
-    ensures ok { OnOk result (seen frames.new.entries ≡ put_bytes (seen frames.old.entries) addr (bytes_of width value)) }
-    ensures allowed { OnOk result (refusal (seen frames.old.entries) may.Write addr width ≡ None) }
-    ensures refused { (access : Access) → (result ≡ Err (StoreRefusal.Access access)) ↔ (refusal (seen frames.old.entries) may.Write addr width ≡ Some access) }
-    ensures err { OnErr result (seen frames.new.entries ≡ seen frames.old.entries) }
-    ensures whole { HasWholePages (seen frames.new.entries) }
+// Whether the bytes of pages that get these rights stay.
+fn keeps(rights: Rights, keep: bool) -> bool
+    ensures { result ≡ (keep && reaches rights may.Read) }
 {
-    if store_here(frames, addr, width, value) {
+    keep && rights.reaches(Rights::Read)
+}
+
+/// Gives a range of pages these rights, and then drops the bytes that are not kept.
+pub fn set_range(
+    held: &mut Pages,
+    first: u32,
+    count: u32,
+    rights: Rights,
+    keep: bool,
+) -> Result<(), AllocError>
+    requires low { 16 ≤ first }
+    requires high { first + count ≤ 2 ^ 20 }
+    requires kept { IsTrue keep → HaveRights (seen held.old) first count }
+    requires whole { IsWhole held.old }
+    ensures ok { OnOk result (seen held.new ≡ set_pages (seen held.old) first count rights keep) }
+    ensures err { OnErr result (seen held.new ≡ seen held.old) }
+    ensures whole { IsWhole held.new }
+{
+    held.rights.set(first, count, rights)?;
+    if keeps(rights, keep) {
         return Ok(());
     }
-    store_anywhere(frames, addr, width, value)
+    held.bytes.zero(first, count);
+    Ok(())
+}
+
+/// Lifts a range of pages.
+pub fn lift_range(held: &mut Pages, first: u32, count: u32) -> Result<(), AllocError>
+    requires low { 16 ≤ first }
+    requires high { first + count ≤ 2 ^ 20 }
+    requires whole { IsWhole held.old }
+    ensures ok { OnOk result (seen held.new ≡ lift_pages (seen held.old) first count) }
+    ensures err { OnErr result (seen held.new ≡ seen held.old) }
+    ensures whole { IsWhole held.new }
+{
+    held.rights.lift(first, count)
 }

@@ -7,7 +7,7 @@ use Rattle.pvm_isa.specs.declared.op.Op.TheVariants.{Trap, Ecalli}
 use Rattle.pvm_isa.specs.Opcodes.{op_numbered}
 use Rattle.blob_decode.specs.Program.{Program, mask_bit, op_at, next, skip}
 use Rattle.pvm_isa.specs.Arguments.{code_byte}
-use Rattle.paged_memory.specs.declared.rights.Rights.TheVariants as may
+use Rattle.page_rights.specs.declared.rights.Rights.TheVariants as may
 use Rattle.paged_memory.specs.declared.access.Access.{Access}
 use Rattle.paged_memory.specs.declared.access.StoreRefusal.{StoreRefusal}
 use Rattle.paged_memory.specs.declared.access.StoreRefusal.TheVariants as refused

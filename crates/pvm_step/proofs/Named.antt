@@ -6,7 +6,7 @@ use Rattle.std.proofs.lemmas.Bool.{cases_lt}
 use Rattle.std.proofs.lemmas.List.{get_or-set_other}
 use Rattle.pvm_isa.specs.declared.op.Op.{Op}
 use Rattle.blob_decode.specs.Program.{Program, Landing, to, halts, nowhere, jump_to, jump_through}
-use Rattle.paged_memory.specs.declared.rights.Rights.TheVariants as may
+use Rattle.page_rights.specs.declared.rights.Rights.TheVariants as may
 use Rattle.paged_memory.specs.declared.access.Access.{Access}
 use Rattle.paged_memory.specs.PageMap.{Memory, Page, Write, byte, byte_in, page_of, addresses, blank, put_in, put_byte, put_bytes, bytes_of, lift_in, lift_page, lift_pages, loaded, refusal}
 use Rattle.pvm_step.proofs.Pages.{inserted_there, inserted_other}

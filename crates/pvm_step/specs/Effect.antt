@@ -8,7 +8,7 @@ use Rattle.pvm_isa.specs.Opcodes.{form_of}
 use Rattle.pvm_isa.specs.Arguments.{arguments}
 use Rattle.pvm_alu.specs.Alu.{binary, unary, test, widen, loaded_bytes}
 use Rattle.blob_decode.specs.Program.{Program, Landing, to, halts, nowhere, op_at, skip, next, jump_to, jump_through}
-use Rattle.paged_memory.specs.declared.rights.Rights.TheVariants as may
+use Rattle.page_rights.specs.declared.rights.Rights.TheVariants as may
 use Rattle.paged_memory.specs.declared.access.Access.{Access}
 use Rattle.paged_memory.specs.declared.access.Access.TheVariants as access
 use Rattle.paged_memory.specs.PageMap.{Memory, page_of, loaded, refusal, put_bytes, bytes_of, lift_pages}

@@ -1,4 +1,5 @@
 use Rattle.paged_memory.proofs.ReadBack.{there_law, other_law, rights_law, read_back_law}
+use Rattle.paged_memory.proofs.PageLaws.{put_bytes_law}
 use Rattle.paged_memory.proofs.laws.write_laws.Goals as goal
 
 pub returns-clause-there : goal.returns-clause-there
@@ -12,3 +13,6 @@ returns-clause-rights c m from bytes page = rights_law bytes m from page
 
 pub returns-clause-reads_back : goal.returns-clause-reads_back
 returns-clause-reads_back c = read_back_law
+
+pub returns-clause-bytes : goal.returns-clause-bytes
+returns-clause-bytes c = put_bytes_law

@@ -1,5 +1,5 @@
 use Rattle.std.proofs.Common.{◌+◌, ◌%◌, ◌≤◌, ◌∙◌, ap, sym, arith}
-use Rattle.paged_memory.specs.declared.rights.Rights.{Rights}
+use Rattle.page_rights.specs.declared.rights.Rights.{Rights}
 use Rattle.paged_memory.specs.PageMap.{reaches}
 use Rattle.paged_memory.specs.Seen.{seen}
 use Rattle.paged_memory.proofs.ByteLaws.{lacks_at, has_piece, nothing_left}
@@ -8,7 +8,7 @@ use Rattle.paged_memory.proofs.reads.all_have.Goals as goal
 pub returns-then-not-reaches : goal.returns-then-not-reaches
 returns-then-not-reaches c =
     sym (c.pages.invariant.same
-    ∙ lacks_at (seen c.args.frames.now.entries) c.args.need c.pages.address c.pages.rest c.pages-test.true
+    ∙ lacks_at (seen c.args.held.now) c.args.need c.pages.address c.pages.rest c.pages-test.true
     (ap (λ (r : Rights). reaches r c.args.need) (sym c.rights_of.ensures) ∙ sym c.reaches.ensures ∙ c.if-not-reaches.true))
 
 pub pages-preserved : goal.pages-preserved
@@ -18,10 +18,10 @@ pages-preserved c =
     record {
       same =
           c.pages.invariant.same
-          ∙ has_piece (seen c.args.frames.now.entries) c.args.need c.pages.address c.pages.rest c.min-count.result
+          ∙ has_piece (seen c.args.held.now) c.args.need c.pages.address c.pages.rest c.min-count.result
           (ap (λ (r : Rights). reaches r c.args.need) (sym c.rights_of.ensures) ∙ sym c.reaches.ensures ∙ c.if-not-reaches.false) within room;
       end = omega arith;
     }
 
 pub returns : goal.returns
-returns c = sym (c.pages.invariant.same ∙ nothing_left (seen c.args.frames.now.entries) c.args.need c.pages.address c.pages.rest c.pages-test.false)
+returns c = sym (c.pages.invariant.same ∙ nothing_left (seen c.args.held.now) c.args.need c.pages.address c.pages.rest c.pages-test.false)

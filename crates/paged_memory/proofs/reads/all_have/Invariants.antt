@@ -5,7 +5,7 @@ use Rattle.paged_memory.proofs.reads.all_have.Given as goal
 
 abbrev pub invariant-pages : goal.invariant-pages
 invariant-pages l = record {
-  same : all_have (seen l.frames.entries) l.need l.addr l.n ≡ all_have (seen l.frames.entries) l.need l.address l.rest;
+  same : all_have (seen l.held) l.need l.addr l.n ≡ all_have (seen l.held) l.need l.address l.rest;
   end : l.address + l.rest ≤ 2 ^ 32;
 }
 

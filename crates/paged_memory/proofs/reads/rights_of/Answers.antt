@@ -1,9 +1,9 @@
-use Rattle.std.proofs.Common.{◌∙◌}
-use Rattle.paged_memory.proofs.Visible.{rights_seen, no_rights_seen}
+use Rattle.std.proofs.Common.{◌∙◌, sym, arith}
+use Rattle.paged_memory.proofs.Sight.{rights_seen, no_rights_past}
 use Rattle.paged_memory.proofs.reads.rights_of.Goals as goal
 
-pub returns-in-Some : goal.returns-in-Some
-returns-in-Some c = c.rights.ensures ∙ rights_seen c.args.frames.now c.args.page c.in-Some.frame.now c.in-Some.ensures.value
+pub returns-then-page-lt-PAGES : goal.returns-then-page-lt-PAGES
+returns-then-page-lt-PAGES c = c.rights.ensures ∙ sym (rights_seen c.args.held.now.rights c.args.held.now.bytes c.args.page)
 
-pub returns-in-None : goal.returns-in-None
-returns-in-None c = no_rights_seen c.args.frames.now c.args.page c.in-None.ensures.value
+pub returns-else-page-lt-PAGES : goal.returns-else-page-lt-PAGES
+returns-else-page-lt-PAGES c = no_rights_past c.args.held.now c.args.page c.requires (omega (arith, c.if-page-lt-PAGES.false))

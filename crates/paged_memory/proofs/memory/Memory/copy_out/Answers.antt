@@ -1,6 +1,6 @@
 use Rattle.std.proofs.Common.{◌≡◌, arith, length, sym}
 use Rattle.std.proofs.lemmas.Bool.Decides.{nat_tests}
-use Rattle.paged_memory.proofs.ByteLaws.{bytes_from-empty}
+use Rattle.paged_memory.proofs.Sight.{bytes_from-empty}
 use Rattle.paged_memory.proofs.memory.Memory.copy_out.Goals as goal
 
 pub returns-else-not-is_empty : goal.returns-else-not-is_empty

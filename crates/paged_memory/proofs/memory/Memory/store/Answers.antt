@@ -1,6 +1,6 @@
 use Rattle.std.proofs.Common.{◌≡◌, subst, Some, Err}
 use Rattle.std.specs.Prelude.{◌↔◌}
-use Rattle.paged_memory.specs.declared.rights.Rights.TheVariants as may
+use Rattle.page_rights.specs.declared.rights.Rights.TheVariants as may
 use Rattle.paged_memory.specs.declared.access.StoreRefusal.TheVariants.{Access}
 use Rattle.paged_memory.specs.PageMap.{Memory, refusal}
 use Rattle.paged_memory.proofs.memory.Memory.store.Goals as goal

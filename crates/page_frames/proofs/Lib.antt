@@ -1,0 +1,4 @@
+pub mod Zeros
+pub mod Writing
+pub mod Bytes
+pub mod Pieces

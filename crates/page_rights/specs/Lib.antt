@@ -1,0 +1,3 @@
+pub mod PageRights
+pub mod RunList
+pub mod RangeLaws

@@ -1,0 +1,14 @@
+use Rattle.std.proofs.Common.{◌≡◌, arith, length, sym, subst, true}
+use Rattle.std.proofs.lemmas.Bool.Decides.{nat_tests}
+use Rattle.page_rights.specs.declared.rights.Rights.TheVariants as may
+use Rattle.paged_memory.specs.PageMap.{has}
+use Rattle.paged_memory.proofs.Writing.{put_empty, accessible_each}
+use Rattle.paged_memory.proofs.memory.Memory.fill.Goals as goal
+
+pub returns-then-is_empty-clause-ok : goal.returns-then-is_empty-clause-ok
+returns-then-is_empty-clause-ok c =
+    let none : length c.args.bytes.now ≡ 0 = grind (arith, nat_tests) in
+    sym (put_empty c.args.self.now c.args.addr c.args.bytes.now none)
+
+pub put-requires-clause-there : goal.put-requires-clause-there
+put-requires-clause-there c a l h = subst (λ m. has m may.Read a ≡ true) (sym c.self.view_is) (accessible_each c.args.self.now may.Read c.args.addr (length c.args.bytes.now) c.requires a l h)

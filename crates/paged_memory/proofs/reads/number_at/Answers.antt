@@ -1,0 +1,10 @@
+use Rattle.std.proofs.Common.{◌≡◌, ◌∙◌, ap, take, drop, length, rules}
+use Rattle.paged_memory.specs.PageMap.{number}
+use Rattle.paged_memory.proofs.Sight.{numbers_read}
+use Rattle.paged_memory.proofs.reads.number_at.Goals as goal
+
+pub returns : goal.returns
+returns c =
+    let size : length c.read.new.buf ≡ c.args.width = search rules in
+    let all : c.read.new.buf ≡ take c.args.width (drop c.args.addr c.args.held.now.bytes) = search rules in
+    c.number_of.ensures ∙ ap number (all ∙ numbers_read c.args.width c.args.held.now c.args.addr c.requires.whole c.requires.room)

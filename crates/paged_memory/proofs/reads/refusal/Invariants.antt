@@ -1,7 +1,0 @@
-use Rattle.std.proofs.Common.{◌≡◌, ◌+◌, ◌-◌}
-use Rattle.paged_memory.specs.PageMap.{forbidden, least}
-use Rattle.paged_memory.specs.Seen.{seen}
-use Rattle.paged_memory.proofs.reads.refusal.Given as goal
-
-abbrev pub invariant-places : goal.invariant-places
-invariant-places l = l.lowest ≡ least (forbidden (seen l.frames.entries) l.need (l.addr + l.k) (l.width - l.k))
