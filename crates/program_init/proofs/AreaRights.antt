@@ -7,9 +7,10 @@ use Rattle.std.specs.declared.cmp.Ordering.TheVariants.{Less, Greater}
 use Rattle.std.specs.Ordering.{nat_cmp, eq_by_cmp, is_eq}
 use Rattle.std.specs.Cmp.{nat_cmp_total, eq_by_cmp_equiv, nat_cmp_is}
 use Rattle.std.specs.FinMap as fin
-use Rattle.paged_memory.specs.declared.rights.Rights.{Rights}
-use Rattle.paged_memory.specs.declared.rights.Rights.TheVariants as may
-use Rattle.paged_memory.specs.PageMap.{Memory, Page, page_of, rights, rights_in, reaches, has, all_have, readable, set_page, set_pages}
+use Rattle.page_rights.specs.declared.rights.Rights.{Rights}
+use Rattle.page_rights.specs.declared.rights.Rights.TheVariants as may
+use Rattle.page_rights.specs.PageRights.{reaches}
+use Rattle.paged_memory.specs.PageMap.{Memory, Page, page_of, rights, rights_in, has, all_have, readable, set_page, set_pages}
 
 itself : (k : ℕ) → eq_by_cmp nat_cmp k k ≡ true
 itself k = (eq_by_cmp_equiv nat_cmp_total).refl k

@@ -1,8 +1,8 @@
 -- The areas of a first memory (Gray Paper 0.7.0, appendix A.7).
 use Rattle.std.specs.Prelude.{ℕ, ◌+◌, ◌-◌, ◌*◌, ◌/◌, ◌^◌, Bool, false, List, [], ◌∷◌, length}
 use Rattle.std.specs.FinMap as fin
-use Rattle.paged_memory.specs.declared.rights.Rights.{Rights}
-use Rattle.paged_memory.specs.declared.rights.Rights.TheVariants as may
+use Rattle.page_rights.specs.declared.rights.Rights.{Rights}
+use Rattle.page_rights.specs.declared.rights.Rights.TheVariants as may
 use Rattle.paged_memory.specs.PageMap.{Memory, set_pages, put_bytes}
 use Rattle.program_init.specs.Standard.{Standard}
 

@@ -1,6 +1,6 @@
 // The first memory of a standard program.
 ghost use Rattle.std.specs.Prelude.{◌≡◌, ◌≢◌, ◌<◌, ◌≤◌, ◌+◌, ◌*◌, ◌%◌, ◌^◌, length, IfOk, OnOk};
-ghost use Rattle.paged_memory.specs.declared.rights.Rights.TheVariants as may;
+ghost use Rattle.page_rights.specs.declared.rights.Rights.TheVariants as may;
 ghost use Rattle.program_init.specs.Read.{plain_parts};
 ghost use Rattle.program_init.specs.Refusal.{argument_limit};
 ghost use Rattle.program_init.specs.Areas.{in_pages, in_zones, area, with_area, writable_start, first_memory};

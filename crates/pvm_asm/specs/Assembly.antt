@@ -409,5 +409,5 @@ assembly_by whole lines =
     else Err (1, MissingHeader)
 
 -- the bytes of a text, or the number of the first line that is refused, and why. Without a statement it is line 1
-abbrev pub assembly : List ℕ → Result (List ℕ) (ℕ × AsmKind)
+unfoldable pub assembly : List ℕ → Result (List ℕ) (ℕ × AsmKind)
 assembly text = assembly_by (after_lines unread (read_lines text)) (read_lines text)

@@ -57,7 +57,7 @@ fn kind_of(whole: &Survey, so_far: &Survey, line: &Line<'_>) -> Option<AsmKind>
 // The image of a text, unless a line is refused.
 fn image_of(alloc: Global, text: &[u8], whole: &Survey) -> Result<Image, AsmRefusal>
     requires width { entry_width whole.now ≤ 8 }
-    requires short { length text.now < 2 ^ 31 }
+    requires short { length text.now < 2 ^ 63 }
     ensures none { OnOk result (first_refused whole.now unread 1 (read_lines text.now) ≡ None) }
     ensures image { IfOk result (λ image. image ≡ with_lines whole.now no_image (read_lines text.now)) }
     ensures refused { IfErr result (NamesLine (first_refused whole.now unread 1 (read_lines text.now))) }
@@ -82,8 +82,8 @@ fn image_of(alloc: Global, text: &[u8], whole: &Survey) -> Result<Image, AsmRefu
 ///
 /// # Errors
 /// `BadLine` exactly where a line is refused, and then the first of them; want of memory.
+#[tactic(auto, unfolding(crate::specs::Assembly::assembly))]
 pub fn assemble(alloc: Global, text: &str) -> Result<Vec<u8>, AsmRefusal>
-    requires { length text.now < 2 ^ 31 }
     ensures bytes { IfOk result (λ bytes. assembly text.now ≡ Ok bytes.items) }
     ensures refused { IfErr result (IsRefusedLine (assembly text.now)) }
 {
