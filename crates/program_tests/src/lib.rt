@@ -1,0 +1,7 @@
+//! Tests of standard programs by their public calls.
+#![tactic(auto)]
+
+#[cfg(test)]
+mod layouts;
+#[cfg(test)]
+mod refusals;
