@@ -5,7 +5,7 @@ use Rattle.std.specs.Str.{bytes_eq}
 use Rattle.hex.specs.Hex.{decode_of}
 use Rattle.std.specs.declared.alloc.Global.{Global}
 use Rattle.jam_cli.specs.declared.verb.Kind.{Kind}
-use Rattle.jam_cli.specs.declared.verb.Kind.TheVariants.{Program, Bytes, State, Batch}
+use Rattle.jam_cli.specs.declared.verb.Kind.TheVariants.{Program, Bytes, State, Batch, Text}
 use Rattle.jam_cli.specs.declared.verb.Verb.{Verb}
 use Rattle.jam_cli.specs.declared.verb.Verb.TheVariants as the
 
@@ -25,10 +25,11 @@ pub record Row : Type 0 where
 abbrev pub row : Verb → Row
 row the.Run = record { name = codes "run"; parts = reads Program ∷ (number 0 (2 ^ 63) ∷ []) }
 row the.Hash = record { name = codes "hash"; parts = reads Bytes ∷ [] }
+row the.Asm = record { name = codes "asm"; parts = reads Text ∷ (stores ∷ []) }
 row the.Accumulate = record { name = codes "accumulate"; parts = reads State ∷ (reads Batch ∷ (stores ∷ (number 0 1 ∷ []))) }
 
 abbrev pub verbs : List Verb
-verbs = the.Run ∷ (the.Hash ∷ (the.Accumulate ∷ []))
+verbs = the.Run ∷ (the.Hash ∷ (the.Asm ∷ (the.Accumulate ∷ [])))
 
 -- the verb with a name, if there is one
 unfoldable pub verb_named : List ℕ → Option Verb

@@ -13,6 +13,8 @@ pub enum Kind {
     State,
     /// A batch of work.
     Batch,
+    /// A text in UTF-8.
+    Text,
 }
 
 /// The first word of a command line.
@@ -20,6 +22,7 @@ pub enum Kind {
 pub enum Verb {
     Run,
     Hash,
+    Asm,
     Accumulate,
 }
 
@@ -31,6 +34,7 @@ pub fn verb_of(word: &str) -> Option<Verb>
     match word {
         "run" => Some(Verb::Run),
         "hash" => Some(Verb::Hash),
+        "asm" => Some(Verb::Asm),
         "accumulate" => Some(Verb::Accumulate),
         _ => None,
     }

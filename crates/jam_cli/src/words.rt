@@ -21,6 +21,11 @@ pub enum Command<'a> {
     },
     /// `hash FILE`: the digest of the bytes of a file.
     Hash(&'a str),
+    /// `asm TEXT OUT`: stores the bytes that a text is assembled to.
+    Asm {
+        text: &'a str,
+        out: &'a str,
+    },
     /// `accumulate STATE BATCH POSTERIOR SLICE`: stores the state that a batch makes of a state.
     Accumulate {
         state: &'a str,
@@ -85,6 +90,22 @@ fn hash_of<'a>(alloc: Global, words: &'a [String]) -> Result<Line<'a>, Misfit>
     })
 }
 
+fn asm_of<'a>(alloc: Global, words: &'a [String]) -> Result<Line<'a>, Misfit>
+    ensures { Parses the.Asm (texts words.now) result }
+{
+    let [text, out] = words else {
+        return Err(Misfit::OtherWords);
+    };
+    let text = name(text)?;
+    let out = name(out)?;
+    apart(out, text)?;
+    Ok(Line {
+        command: Command::Asm { text, out },
+        inputs: vec![in alloc; input(1, text, Kind::Text)]?,
+        stored: Some(out),
+    })
+}
+
 fn accumulate_of<'a>(alloc: Global, words: &'a [String]) -> Result<Line<'a>, Misfit>
     ensures { Parses the.Accumulate (texts words.now) result }
 {
@@ -116,6 +137,7 @@ fn parse<'a>(alloc: Global, verb: Verb, words: &'a [String]) -> Result<Line<'a>,
     match verb {
         Verb::Run => run_of(alloc, words),
         Verb::Hash => hash_of(alloc, words),
+        Verb::Asm => asm_of(alloc, words),
         Verb::Accumulate => accumulate_of(alloc, words),
     }
 }
