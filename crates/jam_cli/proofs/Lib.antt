@@ -6,3 +6,4 @@ pub mod Spelled
 pub mod Carried
 pub mod Endings
 pub mod Hexadecimals
+pub mod Texts

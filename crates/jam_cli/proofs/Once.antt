@@ -1,5 +1,5 @@
 -- What holds once of a call: its command, its values, a place, and names apart.
-use Rattle.std.proofs.Common.{◌≡◌, ◌≢◌, ℕ, ◌<◌, ◌^◌, Bool, true, false, List, [], ◌∷◌, Option, refl, sym, ap, ◌∙◌, subst, arith, zero, suc}
+use Rattle.std.proofs.Common.{◌≡◌, ◌≢◌, ℕ, ◌<◌, ◌^◌, Bool, true, false, List, [], ◌∷◌, Option, Some, Result, Ok, Err, refl, sym, ap, ◌∙◌, subst, arith, zero, suc}
 use Rattle.std.specs.Prelude.{◌&&◌, Contains, IfSome, option_map}
 use Rattle.std.proofs.Math.Dec.{ltb}
 use Rattle.std.proofs.lemmas.Bool.{ltb-true}
@@ -10,11 +10,13 @@ use Rattle.program_init.specs.Standard.{standard_program}
 use Rattle.state_file.specs.StateFile.{state_format}
 use Rattle.batch_file.specs.BatchFile.{batch_format}
 use Rattle.jam_cli.specs.declared.verb.Kind.{Kind}
-use Rattle.jam_cli.specs.declared.verb.Kind.TheVariants.{Program, Standard, Bytes, State, Batch}
+use Rattle.jam_cli.specs.declared.verb.Kind.TheVariants.{Program, Standard, Bytes, State, Batch, Text}
 use Rattle.jam_cli.specs.declared.verb.Verb.{Verb}
-use Rattle.jam_cli.specs.declared.verb.Verb.TheVariants.{Run}
+use Rattle.jam_cli.specs.declared.verb.Verb.TheVariants.{Run, Asm}
 use Rattle.jam_cli.specs.Table.{Part, reads, stores, number, hexadecimal, row, Argument, Arguments, IsWord, AreWords, Fits, FitAll, Input, command, Asks, inputs, stored_name, NamesNone}
-use Rattle.jam_cli.specs.Command.{format_of, Values, kinds, Work, made, bad_line, work_of}
+use Rattle.jam_cli.specs.Command.{format_of, Values, kinds, Work, made, bad_line, work_of, assembled}
+use Rattle.pvm_asm.specs.Assembly.{assembly}
+use Rattle.pvm_asm.specs.declared.kind.AsmKind.{AsmKind}
 use Rattle.jam_cli.specs.Laws.{AskOnce, StoreApart, SpellOnce, RefuseOnce, EntryNamed}
 use Rattle.jam_cli.proofs.Hexadecimals.{same_bytes}
 use Rattle.jam_cli.proofs.Verbs.{name-injective}
@@ -83,9 +85,14 @@ abbrev IsNamed : Work → Option (List ℕ) → Type 0
 IsNamed (made p) name = option_map (λ (e : List ℕ × List ℕ). e.0) p.entry ≡ name
 IsNamed (bad_line line kind) name = Unit {0}
 
+assembled_named : (name : List ℕ) (r : Result (List ℕ) (ℕ × AsmKind)) → IsNamed (assembled name r) (Some name)
+assembled_named name (Ok bytes) = refl
+assembled_named name (Err refusal) = tt
+
 named_of : (verb : Verb) (arguments : Arguments (row verb).parts) (values : Values (kinds (inputs (command verb arguments))))
     → IsNamed (work_of verb arguments values) (stored_name (command verb arguments))
 named_of Run arguments values = refl
+named_of Asm arguments values = assembled_named arguments.1.0 (assembly values.0)
 named_of _ arguments values = refl
 
 pub entry_named : EntryNamed
@@ -98,6 +105,7 @@ one_of_each program standard state batch Standard = standard
 one_of_each program standard state batch Bytes = λ x y bytes p q. sym p.1 ∙ q.1
 one_of_each program standard state batch State = state
 one_of_each program standard state batch Batch = batch
+one_of_each program standard state batch Text = λ x y bytes p q. sym p.1 ∙ q.1
 
 pub spell_once : ((kind : Kind) → HasOneSpelling (format_of kind)) → SpellOnce
 spell_once one [] values others [] s t = refl

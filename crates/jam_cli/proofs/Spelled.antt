@@ -7,7 +7,7 @@ use Rattle.jam_codec.specs.declared.refusal.FileRefusal.TheVariants as codec
 use Rattle.jam_cli.specs.declared.refusal.Refusal.{Refusal}
 use Rattle.jam_cli.specs.declared.refusal.Refusal.TheVariants.{NoMemory, BadWords, ReadFault, TooLong, NotSpelled, BadLine, SinkFault, StoreFault}
 use Rattle.jam_cli.specs.declared.verb.Kind.{Kind}
-use Rattle.jam_cli.specs.declared.verb.Kind.TheVariants.{Program, Standard, Bytes, State, Batch}
+use Rattle.jam_cli.specs.declared.verb.Kind.TheVariants.{Program, Standard, Bytes, State, Batch, Text}
 use Rattle.jam_cli.specs.declared.reads.File as code_file
 use Rattle.jam_cli.specs.declared.kept.Kept as kept_file
 use Rattle.jam_cli.specs.declared.kept.Kept.TheVariants as kept
@@ -91,3 +91,4 @@ kept_whole Program k bytes other keeps = keeps
 kept_whole Standard k bytes other keeps = keeps
 kept_whole State k bytes other keeps = keeps
 kept_whole Batch k bytes other keeps = keeps
+kept_whole Text k bytes other keeps = keeps

@@ -1,5 +1,7 @@
 -- The work of each command: what it prints and stores, or the line of a text that it refuses, as a function of its arguments and of the values of its files.
-use Rattle.std.specs.Prelude.{ℕ, ◌+◌, ◌-◌, List, [], ◌∷◌, ◌++◌, length, map, Ok, Option, Some, None}
+use Rattle.std.specs.Prelude.{ℕ, ◌+◌, ◌-◌, List, [], ◌∷◌, ◌++◌, length, map, Ok, Err, Result, Option, Some, None, ◌≡◌, ◌==◌, if◌then◌else◌}
+use Rattle.std.specs.Str.{IsUtf8}
+use Rattle.std.specs.Str.Lossy.{utf8_valid_len}
 use Rattle.std.specs.FinMap as fin
 use Rattle.jam_codec.specs.Format.{Format, Spells, from}
 use Rattle.jam_codec.specs.Laws.{Longest}
@@ -11,6 +13,7 @@ use Rattle.pvm_step.specs.History.{Moment, answer, raw, output_of}
 use Rattle.pvm_step.specs.Machine.{moment}
 use Rattle.pvm_invoke.specs.Outcome.{Outcome}
 use Rattle.pvm_asm.specs.declared.kind.AsmKind.{AsmKind}
+use Rattle.pvm_asm.specs.Assembly.{assembly}
 use Rattle.trace_text.specs.declared.line.Line.{Line}
 use Rattle.trace_text.specs.declared.line.Line.TheVariants as of
 use Rattle.trace_text.specs.Transcript.{text_of, block, state_lines}
@@ -24,7 +27,7 @@ use Rattle.batch_accumulate.specs.declared.posterior.Posterior.{Posterior}
 use Rattle.batch_accumulate.specs.Batch.{posterior_of}
 use Rattle.jam_outside.specs.Files.{Files, content}
 use Rattle.jam_cli.specs.declared.verb.Kind.{Kind}
-use Rattle.jam_cli.specs.declared.verb.Kind.TheVariants.{Program, Standard, Bytes, State, Batch}
+use Rattle.jam_cli.specs.declared.verb.Kind.TheVariants.{Program, Standard, Bytes, State, Batch, Text}
 use Rattle.jam_cli.specs.declared.verb.Verb.{Verb}
 use Rattle.jam_cli.specs.declared.verb.Verb.TheVariants as the
 use Rattle.jam_cli.specs.Table.{row, Input, Arguments, Command, command, inputs}
@@ -38,10 +41,20 @@ ValueOf Standard = standard.Standard blob.Program
 ValueOf Bytes = List ℕ
 ValueOf State = services.State
 ValueOf Batch = work_batch.Batch
+ValueOf Text = List ℕ
 
 -- bytes as they are: all of them are one field, which always spells
 abbrev pub all_bytes : Format (List ℕ)
 all_bytes = record { Fits = λ x. Unit {0}; spell = λ x. x; Run = λ run. Unit {0}; read = λ r. Ok (r.rest, from (r.place + length r.rest) []) }
+
+-- a text: all bytes are one field, which spells where they are UTF-8; no part of them is a field of its own
+abbrev pub text_format : Format (List ℕ)
+text_format = record {
+  Fits = IsUtf8;
+  spell = λ x. x;
+  Run = λ run. run ≡ [];
+  read = λ r. if utf8_valid_len r.rest == length r.rest then Ok (r.rest, from (r.place + length r.rest) []) else Err r.place;
+}
 
 abbrev pub format_of : (kind : Kind) → Format (ValueOf kind)
 format_of Program = blob.program_blob
@@ -49,6 +62,7 @@ format_of Standard = standard.standard_program
 format_of Bytes = all_bytes
 format_of State = state_format
 format_of Batch = batch_format
+format_of Text = text_format
 
 -- the bytes spell a value of the kind
 abbrev pub IsSpelled : Kind → List ℕ → Type 0
@@ -125,6 +139,15 @@ show_work state = prints (state_lines state)
 abbrev pub hash_work : List ℕ → Work
 hash_work bytes = prints (of.Digest (digest bytes) ∷ [])
 
+-- what a text is assembled to is stored, and its size and digest are printed; or its first refused line
+abbrev pub assembled : List ℕ → Result (List ℕ) (ℕ × AsmKind) → Work
+assembled name (Ok bytes) = made (record { printed = text_of (of.Size (length bytes) (digest bytes) ∷ []); entry = Some (name, bytes) })
+assembled name (Err refusal) = bad_line refusal.0 refusal.1
+
+-- asm: the assembly of the text
+abbrev pub asm_work : List ℕ → List ℕ → Work
+asm_work text name = assembled name (assembly text)
+
 -- the lines of a batch that makes no group; its own lines, and the digest of the posterior's bytes
 abbrev pub batch_lines : Posterior → List ℕ → List Line
 batch_lines p bytes =
@@ -143,6 +166,7 @@ work_of the.Run arguments values = run_work values.0 arguments.1.0
 work_of the.Trace arguments values = trace_work values.0 arguments.1.0 arguments.1.1.0 arguments.1.1.1.0 arguments.1.1.1.1.0
 work_of the.Show arguments values = show_work values.0
 work_of the.Hash arguments values = hash_work values.0
+work_of the.Asm arguments values = asm_work values.0 arguments.1.0
 work_of the.Accumulate arguments values = accumulate_work values.0 values.1.0 arguments.1.1.0
 
 abbrev pub work : (c : Command) → Values (kinds (inputs c)) → Work

@@ -12,7 +12,7 @@ use Rattle.jam_cli.specs.declared.status.Status.TheVariants as status
 use Rattle.jam_cli.specs.declared.refusal.Refusal.{Refusal}
 use Rattle.jam_cli.specs.declared.refusal.Refusal.TheVariants.{NoMemory, BadWords, ReadFault, TooLong, NotSpelled, BadLine, SinkFault, StoreFault}
 use Rattle.jam_cli.specs.declared.verb.Kind.{Kind}
-use Rattle.jam_cli.specs.declared.verb.Kind.TheVariants.{Program, Standard, Bytes, State, Batch}
+use Rattle.jam_cli.specs.declared.verb.Kind.TheVariants.{Program, Standard, Bytes, State, Batch, Text}
 use Rattle.jam_cli.specs.declared.verb.Verb.{Verb}
 use Rattle.jam_cli.specs.declared.verb.Verb.TheVariants as the
 use Rattle.jam_cli.specs.declared.words.Command as parsed
@@ -38,6 +38,7 @@ asked (of.Run blob gas) = command the.Run (blob.now, (gas.value, tt))
 asked (of.Trace standard entry gas args last) = command the.Trace (standard.now, (entry, (gas.value, (args.bytes.items, (last.value, tt)))))
 asked (of.Show state) = command the.Show (state.now, tt)
 asked (of.Hash file) = command the.Hash (file.now, tt)
+asked (of.Asm text out) = command the.Asm (text.now, (out.now, tt))
 asked (of.Accumulate state batch posterior slice) = command the.Accumulate (state.now, (batch.now, (posterior.now, (slice, tt))))
 
 -- the inputs that the code holds
@@ -76,6 +77,7 @@ IsKept Program k bytes = KeepsWhole k bytes
 IsKept Standard k bytes = KeepsWhole k bytes
 IsKept State k bytes = KeepsWhole k bytes
 IsKept Batch k bytes = KeepsWhole k bytes
+IsKept Text k bytes = KeepsWhole k bytes
 
 -- the code holds this file
 pub record IsFile (f : code_file.File) (g : File) : Type 0 where
@@ -166,6 +168,13 @@ plain_work w = made (plain_product w)
 -- it is the command's work on what these files spell
 abbrev pub IsWork : Command → List File → Work → Type 0
 IsWork c fs w = (values : Values (kinds (inputs c))) × SpellAll (kinds (inputs c)) values fs × (w ≡ work c values)
+
+-- a work comes to this: what it makes, or the line that it refuses
+abbrev pub ComesTo : Work → Result code_work.Work Refusal → Type 0
+ComesTo w (Ok x) = plain_work x ≡ w
+ComesTo w (Err (BadLine line kind)) = w ≡ bad_line line kind
+ComesTo w (Err NoMemory) = Unit {0}
+ComesTo w (Err refusal) = ⊥
 
 -- it was not done
 abbrev pub NotWorked : Refusal → Command → List File → Type 0

@@ -5,7 +5,7 @@ use Rattle.std.specs.Str.{bytes_eq}
 use Rattle.hex.specs.Hex.{decode_of}
 use Rattle.std.specs.declared.alloc.Global.{Global}
 use Rattle.jam_cli.specs.declared.verb.Kind.{Kind}
-use Rattle.jam_cli.specs.declared.verb.Kind.TheVariants.{Program, Standard, Bytes, State, Batch}
+use Rattle.jam_cli.specs.declared.verb.Kind.TheVariants.{Program, Standard, Bytes, State, Batch, Text}
 use Rattle.jam_cli.specs.declared.verb.Verb.{Verb}
 use Rattle.jam_cli.specs.declared.verb.Verb.TheVariants as the
 
@@ -27,10 +27,11 @@ row the.Run = record { name = codes "run"; parts = reads Program ∷ (number 0 (
 row the.Trace = record { name = codes "trace"; parts = reads Standard ∷ (number 0 (2 ^ 32) ∷ (number 0 (2 ^ 63) ∷ (hexadecimal 0 (2 ^ 24) ∷ (number 1 1001 ∷ [])))) }
 row the.Show = record { name = codes "show"; parts = reads State ∷ [] }
 row the.Hash = record { name = codes "hash"; parts = reads Bytes ∷ [] }
+row the.Asm = record { name = codes "asm"; parts = reads Text ∷ (stores ∷ []) }
 row the.Accumulate = record { name = codes "accumulate"; parts = reads State ∷ (reads Batch ∷ (stores ∷ (number 0 1 ∷ []))) }
 
 abbrev pub verbs : List Verb
-verbs = the.Run ∷ (the.Trace ∷ (the.Show ∷ (the.Hash ∷ (the.Accumulate ∷ []))))
+verbs = the.Run ∷ (the.Trace ∷ (the.Show ∷ (the.Hash ∷ (the.Asm ∷ (the.Accumulate ∷ [])))))
 
 -- the verb with a name, if there is one
 unfoldable pub verb_named : List ℕ → Option Verb

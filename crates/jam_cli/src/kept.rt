@@ -66,7 +66,7 @@ pub fn read_kept<V: Vault>(
 {
     match kind {
         Kind::Bytes => Ok(Kept::Digest(read_digest(alloc, vault, name)?)),
-        Kind::Program | Kind::Standard | Kind::State | Kind::Batch => {
+        Kind::Program | Kind::Standard | Kind::State | Kind::Batch | Kind::Text => {
             Ok(Kept::Whole(read_whole(alloc, vault, name, LIMIT)?))
         }
     }

@@ -3,6 +3,7 @@
 
 mod accumulate;
 mod argument;
+mod asm;
 mod deliver;
 mod hash;
 mod kept;

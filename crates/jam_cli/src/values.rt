@@ -3,7 +3,7 @@ ghost use Rattle.std.specs.Prelude.{◌≡◌, ◌≢◌, List, ℕ, [], ◌∷�
 ghost use Rattle.jam_codec.specs.Format.{Spells};
 ghost use Rattle.blake2b_core.specs.Blake2b as blake2b;
 ghost use Rattle.jam_cli.specs.declared.verb.Kind.{Kind};
-ghost use Rattle.jam_cli.specs.declared.verb.Kind.TheVariants.{Program, Standard, Bytes, State, Batch};
+ghost use Rattle.jam_cli.specs.declared.verb.Kind.TheVariants.{Program, Standard, Bytes, State, Batch, Text};
 ghost use Rattle.jam_cli.specs.Command.{File, ValueOf, format_of, kinds, Values, SpellAll};
 ghost use Rattle.jam_cli.specs.Parts.{inputs_in, first_bytes, later_files, IsKept, KeepsWhole, AreKept, OfFiles, IsNone, refused_as, NotAllSpelled};
 
@@ -18,6 +18,7 @@ use jam_codec::FileRefusal;
 use program_init::{StandardProgram, read_standard};
 use state_file::read_state;
 use std::alloc::Global;
+use std::str;
 
 /// A value that the bytes of a file of one kind spell.
 pub trait Spelled: Drop {
@@ -81,6 +82,24 @@ impl Spelled for Batch {
 
     fn decode(alloc: Global, bytes: &[u8]) -> Result<Batch, FileRefusal> {
         read_batch(alloc, bytes)
+    }
+
+    ghost whole = { λ e. Prim.cc e };
+}
+
+#[tactic(auto, using(crate::proofs::Texts::no_text))]
+impl Spelled for String {
+    ghost use Rattle.std.specs.Prelude.{string_bytes};
+
+    ghost kind = { Text };
+
+    ghost value = { λ s. string_bytes s };
+
+    fn decode(alloc: Global, bytes: &[u8]) -> Result<String, FileRefusal> {
+        match str::from_utf8(bytes) {
+            Ok(text) => Ok(String::from_str(alloc, text)?),
+            Err(_) => Err(FileRefusal::Malformed { place: 0 }),
+        }
     }
 
     ghost whole = { λ e. Prim.cc e };

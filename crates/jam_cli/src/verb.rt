@@ -15,6 +15,8 @@ pub enum Kind {
     State,
     /// A batch of work.
     Batch,
+    /// A text in UTF-8.
+    Text,
 }
 
 /// The first word of a command line.
@@ -24,6 +26,7 @@ pub enum Verb {
     Trace,
     Show,
     Hash,
+    Asm,
     Accumulate,
 }
 
@@ -37,6 +40,7 @@ pub fn verb_of(word: &str) -> Option<Verb>
         "trace" => Some(Verb::Trace),
         "show" => Some(Verb::Show),
         "hash" => Some(Verb::Hash),
+        "asm" => Some(Verb::Asm),
         "accumulate" => Some(Verb::Accumulate),
         _ => None,
     }

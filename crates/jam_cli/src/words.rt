@@ -32,6 +32,11 @@ pub enum Command<'a> {
     Show(&'a str),
     /// `hash FILE`: the digest of the bytes of a file.
     Hash(&'a str),
+    /// `asm TEXT OUT`: stores the bytes that a text is assembled to.
+    Asm {
+        text: &'a str,
+        out: &'a str,
+    },
     /// `accumulate STATE BATCH POSTERIOR SLICE`: stores the state that a batch makes of a state.
     Accumulate {
         state: &'a str,
@@ -134,6 +139,22 @@ fn hash_of<'a>(alloc: Global, words: &'a [String]) -> Result<Line<'a>, Misfit>
     })
 }
 
+fn asm_of<'a>(alloc: Global, words: &'a [String]) -> Result<Line<'a>, Misfit>
+    ensures { Parses the.Asm (texts words.now) result }
+{
+    let [text, out] = words else {
+        return Err(Misfit::OtherWords);
+    };
+    let text = name(text)?;
+    let out = name(out)?;
+    apart(out, text)?;
+    Ok(Line {
+        command: Command::Asm { text, out },
+        inputs: vec![in alloc; input(1, text, Kind::Text)]?,
+        stored: Some(out),
+    })
+}
+
 fn accumulate_of<'a>(alloc: Global, words: &'a [String]) -> Result<Line<'a>, Misfit>
     ensures { Parses the.Accumulate (texts words.now) result }
 {
@@ -167,6 +188,7 @@ fn parse<'a>(alloc: Global, verb: Verb, words: &'a [String]) -> Result<Line<'a>,
         Verb::Trace => trace_of(alloc, words),
         Verb::Show => show_of(alloc, words),
         Verb::Hash => hash_of(alloc, words),
+        Verb::Asm => asm_of(alloc, words),
         Verb::Accumulate => accumulate_of(alloc, words),
     }
 }

@@ -9,6 +9,7 @@ ghost use Rattle.jam_cli.specs.Command.{kinds};
 ghost use Rattle.jam_cli.specs.Parts.{asked, inputs_in, AreKept, WorkedOn};
 
 use crate::accumulate::accumulate;
+use crate::asm::asm;
 use crate::hash::hash;
 use crate::number::{ArgumentBytes, LineCount, Small};
 use crate::reads::File;
@@ -83,6 +84,20 @@ fn hash_on<'a>(alloc: Global, file: &'a str, files: &[File<'_>]) -> Result<Work<
     Ok(hash(alloc, digest)?)
 }
 
+fn asm_on<'a>(
+    alloc: Global,
+    text: &'a str,
+    out: &'a str,
+    files: &[File<'_>],
+) -> Result<Work<'a>, Refusal>
+    requires kinds { kinds (inputs_in files.now) ≡ kind.Text ∷ [] }
+    requires kept { AreKept files.now }
+    ensures { WorkedOn (command the.Asm (text.now, (out.now, tt))) files.now result }
+{
+    let (Whole(found), ()): (Whole<String>, ()) = Contents::decode_all(alloc, files)?;
+    asm(alloc, found.as_str(), out)
+}
+
 fn accumulate_on<'a>(
     alloc: Global,
     state: &'a str,
@@ -121,6 +136,7 @@ pub fn work_of<'a>(
         } => trace_on(alloc, *standard, *entry, *gas, args, *last, files),
         Command::Show(state) => show_on(alloc, *state, files),
         Command::Hash(file) => hash_on(alloc, *file, files),
+        Command::Asm { text, out } => asm_on(alloc, *text, *out, files),
         Command::Accumulate {
             state,
             batch,
