@@ -5,7 +5,7 @@ use Rattle.pvm_isa.specs.declared.op.Op.{Op}
 use Rattle.pvm_isa.specs.declared.op.Op.TheVariants.{Trap}
 use Rattle.pvm_isa.specs.declared.arguments.Args.{Args}
 use Rattle.blob_decode.specs.Program.{Program, Landing, to, halts, nowhere, jump_to, jump_through, op_at}
-use Rattle.paged_memory.specs.declared.rights.Rights.TheVariants as may
+use Rattle.page_rights.specs.declared.rights.Rights.TheVariants as may
 use Rattle.paged_memory.specs.declared.access.Access.{Access}
 use Rattle.paged_memory.specs.declared.access.Access.TheVariants as access
 use Rattle.paged_memory.specs.PageMap.{Memory, loaded, refusal, put_bytes, bytes_of}
