@@ -140,6 +140,9 @@ fn lifted_pages_keep_what_they_have(rt: HostRuntime) -> Result<(), AllocError> {
     for (page, rights) in rows {
         has_rights(&rt, &memory, page, rights);
     }
+    set(&mut memory, 16, 1_048_560, Rights::Write)?;
+    loads(&rt, &memory, 4_294_967_295, 1, Ok(0));
+    loads(&rt, &memory, 69_624, 8, Ok(0));
     Ok(())
 }
 
