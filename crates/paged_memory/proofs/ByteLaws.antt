@@ -1,16 +1,15 @@
 -- Accesses byte for byte.
-use Rattle.std.proofs.Common.{◌≡◌, ℕ, zero, suc, ◌+◌, ◌-◌, ◌*◌, ◌/◌, ◌%◌, ◌^◌, ◌<◌, ◌≤◌, Bool, true, false, cond, List, [], ◌∷◌, ◌++◌, map, length, take, drop, Some, None, Option, refl, sym, ap, subst, ◌∙◌, arith}
+use Rattle.std.proofs.Common.{◌≡◌, ℕ, zero, suc, ◌+◌, ◌-◌, ◌/◌, ◌%◌, ◌^◌, ◌<◌, ◌≤◌, Bool, true, false, cond, List, [], ◌∷◌, map, length, Some, None, Option, refl, sym, ap, subst, ◌∙◌, arith}
 use Rattle.std.specs.Prelude.{not, ◌&&◌, IfOk}
 use Rattle.std.specs.FinMap as fin
 use Rattle.std.specs.List.{All}
-use Rattle.std.proofs.Math.Nat.{pow-le-pow_right}
 use Rattle.std.proofs.lemmas.List.Elements.{All-get_or}
 use Rattle.page_rights.specs.declared.rights.Rights.{Rights}
 use Rattle.page_rights.specs.declared.rights.Rights.TheVariants as may
 use Rattle.paged_memory.specs.declared.access.Access.{Access}
-use Rattle.paged_memory.specs.PageMap.{Page, Memory, HasWholePages, page_of, rights, reaches, byte_in, byte, has, addresses, forbidden, lower, least, number, all_have, bytes_from, unless, loaded, refusal}
-use Rattle.std.proofs.lemmas.List.{take_at, drop_at, drop-drop, append_assoc, length-take-le, length-drop}
-use Rattle.paged_memory.proofs.Spelled.{one_more}
+use Rattle.byte_numbers.specs.Numbers.{little_number}
+use Rattle.paged_memory.specs.PageMap.{Page, Memory, HasWholePages, page_of, rights, reaches, byte_in, byte, has, addresses, forbidden, lower, least, all_have, bytes_from, unless, loaded, refusal}
+use Rattle.byte_numbers.specs.NumberLaws.{one_byte_more}
 use Rattle.paged_memory.proofs.InPage.{split_address, all_in_page}
 
 -- the last place but some, counted from the front
@@ -48,10 +47,10 @@ byte_small m a whole = elim (fin.get m (page_of a)) as (λ (o : Option Page). fi
       All-get_or (λ (b : ℕ). b < 256) page.bytes (a % 4096) 0 (omega arith) small
 ] refl
 
-pub number_small : (n : ℕ) (m : Memory) (a : ℕ) → HasWholePages m → number (map (byte m) (addresses a n)) < 256 ^ n
-unfolding number addresses
+pub number_small : (n : ℕ) (m : Memory) (a : ℕ) → HasWholePages m → little_number (map (byte m) (addresses a n)) < 256 ^ n
+unfolding addresses
 number_small zero m a whole = omega arith
-number_small (suc n) m a whole = one_more n (byte m (a % 2 ^ 32)) (number (map (byte m) (addresses (a + 1) n))) (byte_small m (a % 2 ^ 32) whole) (number_small n m (a + 1) whole)
+number_small (suc n) m a whole = one_byte_more n (byte m (a % 2 ^ 32)) (little_number (map (byte m) (addresses (a + 1) n))) (byte_small m (a % 2 ^ 32) whole) (number_small n m (a + 1) whole)
 
 -- ---- Ranges in pieces
 
@@ -111,7 +110,7 @@ unless_small None x bound h = h
 unless_small (Some access) x bound h = tt
 
 pub loaded_small : (m : Memory) (a n : ℕ) → HasWholePages m → IfOk (loaded m a n) (λ value. value < 256 ^ n)
-loaded_small m a n whole = unless_small (refusal m may.Read a n) (number (map (byte m) (addresses a n))) (256 ^ n) (number_small n m a whole)
+loaded_small m a n whole = unless_small (refusal m may.Read a n) (little_number (map (byte m) (addresses a n))) (256 ^ n) (number_small n m a whole)
 
 pub bytes_from-empty : (m : Memory) (a : ℕ) (bs : List ℕ) → length bs ≡ 0 → bytes_from m a (length bs) ≡ bs
 unfolding bytes_from

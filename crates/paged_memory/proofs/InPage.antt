@@ -1,13 +1,10 @@
 -- Accesses whose bytes lie in one page.
-use Rattle.std.proofs.Common.{◌≡◌, ℕ, zero, suc, ◌+◌, ◌*◌, ◌/◌, ◌%◌, ◌^◌, ◌<◌, ◌≤◌, Bool, true, false, cond, List, [], ◌∷◌, ◌++◌, map, length, take, drop, get_or, replicate, Some, None, refl, sym, ap, ◌∙◌, arith, drop-cons}
-use Rattle.std.specs.Prelude.{not, ◌&&◌, slice_set}
+use Rattle.std.proofs.Common.{◌≡◌, ℕ, zero, suc, ◌+◌, ◌*◌, ◌/◌, ◌%◌, ◌^◌, ◌<◌, ◌≤◌, Bool, true, false, cond, List, [], ◌∷◌, refl, ap, ◌∙◌, arith}
+use Rattle.std.specs.Prelude.{not, ◌&&◌}
 use Rattle.std.proofs.Math.Nat.{mod-eq_of_lt}
-use Rattle.std.proofs.Math.Seq.{take-suc-set}
 use Rattle.std.proofs.lemmas.Nat.{div-mul-add, mod-mul-add, div-add-mod'}
-use Rattle.std.proofs.lemmas.List.{append_assoc, length-set, drop-set-lt, take-append-drop}
-use Rattle.std.specs.FinMap as fin
 use Rattle.page_rights.specs.declared.rights.Rights.{Rights}
-use Rattle.paged_memory.specs.PageMap.{Page, Memory, page_of, rights, byte_in, byte, reaches, has, addresses, forbidden, put_in, put_byte, put_bytes, all_have, bytes_from}
+use Rattle.paged_memory.specs.PageMap.{Memory, page_of, rights, reaches, has, addresses, forbidden, all_have}
 
 pub page_at : (p i : ℕ) → i < 4096 → page_of (p * 4096 + i) ≡ p
 page_at p i h = div-mul-add p 4096 i h

@@ -1,7 +1,6 @@
 -- Ranges of pages whose rights change.
-use Rattle.std.proofs.Common.{◌≡◌, ◌≢◌, inl, inr, ℕ, zero, suc, ◌+◌, ◌-◌, ◌*◌, ◌/◌, ◌%◌, ◌^◌, ◌<◌, ◌≤◌, Bool, true, false, List, length, get_or, map, replicate, Option, Some, None, refl, sym, ap, ◌∙◌, arith}
+use Rattle.std.proofs.Common.{◌≡◌, ◌≢◌, inl, inr, ℕ, zero, suc, ◌+◌, ◌*◌, ◌/◌, ◌^◌, ◌<◌, ◌≤◌, Bool, true, false, List, length, map, replicate, Option, Some, None, refl, sym, ap, ◌∙◌, arith}
 use Rattle.std.specs.Prelude.{◌&&◌}
-use Rattle.std.specs.List.{All}
 use Rattle.std.specs.FinMap as fin
 use Rattle.std.proofs.lemmas.List.{length-replicate}
 use Rattle.std.proofs.lemmas.List.Elements.{All-append, All-take, All-drop, All-replicate}
@@ -11,7 +10,7 @@ use Rattle.page_rights.specs.PageRights.{right_of_page, granted, lifted, lifted_
 use Rattle.page_rights.specs.RangeLaws.{before_range, past_range, granted_in, lifted_in, range_size, lifted_long}
 use Rattle.page_frames.specs.PageBytes.{zeroed}
 use Rattle.paged_memory.specs.declared.pages.Pages.{Pages}
-use Rattle.paged_memory.specs.PageMap.{Read, Write, Page, Memory, rights, reaches, blank, page_set, page_lifted, set_page, set_pages, lift_in, lift_page, lift_pages, HaveRights}
+use Rattle.paged_memory.specs.PageMap.{Page, Memory, reaches, blank, page_set, page_lifted, set_page, set_pages, lift_in, lift_page, lift_pages, HaveRights}
 use Rattle.paged_memory.specs.Seen.{visible_as, part_of, seen_from, seen, IsWhole}
 use Rattle.paged_memory.proofs.Maps.{alike, placed_there, placed_other, inserted_there, inserted_other}
 use Rattle.paged_memory.proofs.Parts.{le_or_lt, zero_part, length-zeroed, zeroed_byte, byte_below, byte_above, part_below, part_above}

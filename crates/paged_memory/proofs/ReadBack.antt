@@ -1,18 +1,18 @@
 -- What is put is read.
-use Rattle.std.proofs.Common.{◌≡◌, ◌≢◌, inl, inr, ℕ, zero, suc, ◌+◌, ◌*◌, ◌/◌, ◌%◌, ◌^◌, ◌<◌, ◌≤◌, Bool, true, false, cond, List, [], ◌∷◌, map, length, Some, None, Ok, Option, option_map, refl, sym, ap, ◌∙◌, arith}
+use Rattle.std.proofs.Common.{◌≡◌, ◌≢◌, inl, inr, ℕ, zero, suc, ◌+◌, ◌*◌, ◌%◌, ◌^◌, ◌<◌, ◌≤◌, Bool, true, false, cond, List, [], ◌∷◌, map, length, Some, None, Ok, Option, option_map, refl, sym, ap, ◌∙◌, arith}
 use Rattle.std.specs.Prelude.{not, slice_set}
 use Rattle.std.specs.List.{All}
 use Rattle.std.specs.FinMap as fin
-use Rattle.std.proofs.Math.Nat.{pow-succ'}
 use Rattle.std.proofs.lemmas.Nat.{div-add-mod'}
 use Rattle.std.proofs.lemmas.List.{get_or-set_same, get_or-set_other, length-set}
 use Rattle.std.proofs.lemmas.List.Elements.{All-set, All-head, All-tail}
 use Rattle.std.proofs.lemmas.Bool.{cases_eq}
 use Rattle.page_rights.specs.declared.rights.Rights.{Rights}
 use Rattle.page_rights.specs.declared.rights.Rights.TheVariants as may
-use Rattle.paged_memory.specs.PageMap.{Page, Memory, IsPage, HasWholePages, page_of, rights_in, rights, byte_in, byte, reaches, has, addresses, forbidden, refusal, least, access_at, unless, loaded, number, bytes_of, put_in, put_byte, put_bytes}
+use Rattle.byte_numbers.specs.Numbers.{little_endian, little_number}
+use Rattle.paged_memory.specs.PageMap.{Page, Memory, IsPage, HasWholePages, page_of, rights_in, rights, byte_in, byte, reaches, has, addresses, forbidden, refusal, least, access_at, unless, loaded, put_in, put_byte, put_bytes}
 use Rattle.paged_memory.proofs.Maps.{inserted_there, inserted_other}
-use Rattle.paged_memory.proofs.Spelled.{length-bytes_of}
+use Rattle.byte_numbers.specs.NumberLaws.{length-little_endian, little_number-little_endian, pow_256}
 use Rattle.paged_memory.proofs.Whole.{whole_inserted, small_bytes}
 use Rattle.paged_memory.proofs.RefusalLaws.{allowed_law}
 
@@ -125,21 +125,16 @@ read_back (b ∷ bs) m from short whole free small =
     let rest : map (byte (put_bytes after (from + 1) bs)) (addresses (from + 1) (length bs)) ≡ bs = read_back bs after (from + 1) (omega arith) whole' free' (All-tail (λ (x : ℕ). x < 256) b bs small) in
     λ j. here j ∷ rest j
 
-number_back : (n v : ℕ) → v < 256 ^ n → number (bytes_of n v) ≡ v
-unfolding number bytes_of
-number_back zero v h = omega arith
-number_back (suc n) v h =
-    let e : 256 ^ suc n ≡ 256 * 256 ^ n = pow-succ' 256 n in
-    let top : v / 256 < 256 ^ n = omega (arith, e) in
-    ap (λ (x : ℕ). v % 256 + 256 * x) (number_back n (v / 256) top) ∙ omega arith
+number_back : (n v : ℕ) → v < 256 ^ n → little_number (little_endian n v) ≡ v
+number_back n v h = little_number-little_endian n v (omega (arith, pow_256 n, h))
 
-pub read_back_law : (m : Memory) (from n value : ℕ) → HasWholePages m → n ≤ 2 ^ 32 → value < 256 ^ n → refusal m may.Write from n ≡ None → loaded (put_bytes m from (bytes_of n value)) from n ≡ Ok value
+pub read_back_law : (m : Memory) (from n value : ℕ) → HasWholePages m → n ≤ 2 ^ 32 → value < 256 ^ n → refusal m may.Write from n ≡ None → loaded (put_bytes m from (little_endian n value)) from n ≡ Ok value
 read_back_law m from n value whole short fits free =
-    let size : length (bytes_of n value) ≡ n = length-bytes_of n value in
+    let size : length (little_endian n value) ≡ n = length-little_endian n value in
     let none : forbidden m may.Write from n ≡ [] = (allowed_law (forbidden m may.Write from n)).0 free in
-    let after : Memory = put_bytes m from (bytes_of n value) in
-    let open_after : forbidden after may.Read from n ≡ [] = forbidden_same n after m may.Read from (rights_law (bytes_of n value) m from) ∙ readable_too n m from none in
-    let bytes : map (byte after) (addresses from n) ≡ bytes_of n value =
+    let after : Memory = put_bytes m from (little_endian n value) in
+    let open_after : forbidden after may.Read from n ≡ [] = forbidden_same n after m may.Read from (rights_law (little_endian n value) m from) ∙ readable_too n m from none in
+    let bytes : map (byte after) (addresses from n) ≡ little_endian n value =
     ap (λ (k : ℕ). map (byte after) (addresses from k)) (sym size)
-    ∙ read_back (bytes_of n value) m from (omega arith) whole (ap (forbidden m may.Write from) size ∙ none) (small_bytes n value) in
-    (λ j. unless (option_map access_at (least (open_after j))) (number (bytes j))) ∙ ap (λ (x : ℕ). Ok x) (number_back n value fits)
+    ∙ read_back (little_endian n value) m from (omega arith) whole (ap (forbidden m may.Write from) size ∙ none) (small_bytes n value) in
+    (λ j. unless (option_map access_at (least (open_after j))) (little_number (bytes j))) ∙ ap (λ (x : ℕ). Ok x) (number_back n value fits)

@@ -1,6 +1,5 @@
 -- What is seen of the rights and bytes that are kept.
-use Rattle.std.proofs.Common.{◌≡◌, ◌≢◌, inl, inr, ℕ, zero, suc, ◌+◌, ◌*◌, ◌/◌, ◌%◌, ◌^◌, ◌<◌, ◌≤◌, Bool, true, false, List, [], ◌∷◌, length, take, drop, get_or, map, replicate, Option, Some, None, refl, sym, ap, subst, ◌∙◌, arith, drop-cons}
-use Rattle.std.specs.Prelude.{slice_set}
+use Rattle.std.proofs.Common.{◌≡◌, ◌≢◌, inl, inr, ℕ, zero, suc, ◌+◌, ◌*◌, ◌/◌, ◌%◌, ◌^◌, ◌<◌, ◌≤◌, List, [], ◌∷◌, length, take, drop, get_or, map, replicate, Some, refl, sym, ap, subst, ◌∙◌, arith, drop-cons}
 use Rattle.std.specs.Ordering.{nat_cmp}
 use Rattle.std.specs.List.{All}
 use Rattle.std.specs.FinMap as fin
@@ -10,9 +9,9 @@ use Rattle.std.proofs.lemmas.List.Elements.{All-take, All-drop, All-replicate}
 use Rattle.page_rights.specs.declared.rights.Rights.{Rights}
 use Rattle.page_rights.specs.declared.rights.Rights.TheVariants as may
 use Rattle.page_rights.specs.PageRights.{none_granted, right_of_page}
-use Rattle.page_frames.specs.PageBytes.{all_zero, byte_of}
+use Rattle.page_frames.specs.PageBytes.{all_zero}
 use Rattle.paged_memory.specs.declared.pages.Pages.{Pages}
-use Rattle.paged_memory.specs.PageMap.{Read, Write, Page, Memory, IsPage, HasWholePages, page_of, rights_in, rights, byte_in, byte, reaches, has, addresses, bytes_from}
+use Rattle.paged_memory.specs.PageMap.{Read, Write, Page, Memory, HasWholePages, rights_in, rights, byte_in, byte, addresses, bytes_from}
 use Rattle.paged_memory.specs.Seen.{visible_as, placed, part_of, seen_from, seen, IsWhole}
 use Rattle.paged_memory.proofs.Maps.{alike, placed_there, placed_other}
 use Rattle.paged_memory.proofs.InPage.{split_address}

@@ -1,13 +1,12 @@
 -- Memories keep whole pages.
-use Rattle.std.proofs.Common.{◌≡◌, ℕ, zero, suc, ◌+◌, ◌*◌, ◌/◌, ◌%◌, ◌^◌, ◌<◌, ◌≤◌, Bool, true, false, cond, List, [], ◌∷◌, ◌++◌, length, take, drop, Some, None, Option, refl, sym, ap, subst, ◌∙◌, inl, inr, arith}
+use Rattle.std.proofs.Common.{◌≡◌, ℕ, zero, suc, ◌/◌, ◌%◌, ◌<◌, Bool, cond, length, Some, None, Option, sym, ap, subst, ◌∙◌, inl, inr, arith}
 use Rattle.std.specs.FinMap as fin
 use Rattle.std.specs.Ordering.{nat_cmp}
 use Rattle.std.specs.List.{All}
-use Rattle.std.proofs.lemmas.List.{length-append, length-take-le, length-drop, length-replicate}
-use Rattle.std.proofs.lemmas.List.Elements.{All-append, All-take, All-drop, All-replicate, All-cons, All-nil}
-use Rattle.page_rights.specs.declared.rights.Rights.{Rights}
-use Rattle.page_rights.specs.declared.rights.Rights.TheVariants as may
-use Rattle.paged_memory.specs.PageMap.{Right, Read, Write, Page, Memory, IsPage, HasWholePages, bytes_of, put_bytes, blank, bytes_in, set_page, lift_page, lift_in}
+use Rattle.std.proofs.lemmas.List.{length-replicate}
+use Rattle.std.proofs.lemmas.List.Elements.{All-replicate, All-cons, All-nil}
+use Rattle.byte_numbers.specs.Numbers.{little_endian}
+use Rattle.paged_memory.specs.PageMap.{Page, Memory, IsPage, HasWholePages, blank}
 use Rattle.paged_memory.specs.Seen.{placed}
 use Rattle.paged_memory.proofs.Maps.{same_or, get-placed, placed_there}
 
@@ -33,10 +32,10 @@ whole_inserted m k page whole h = whole_placed m k (Some page) whole (λ p e. su
 pub whole_removed : (m : Memory) (k : ℕ) → HasWholePages m → HasWholePages (fin.remove m k)
 whole_removed m k whole = whole_placed m k None whole (λ p e. absurd (cc))
 
-pub small_bytes : (n v : ℕ) → All (λ (b : ℕ). b < 256) (bytes_of n v)
-unfolding bytes_of
+pub small_bytes : (n v : ℕ) → All (λ (b : ℕ). b < 256) (little_endian n v)
+unfolding little_endian
 small_bytes zero v = All-nil (λ (b : ℕ). b < 256)
-small_bytes (suc n) v = All-cons (λ (b : ℕ). b < 256) (v % 256) (bytes_of n (v / 256)) (omega arith) (small_bytes n (v / 256))
+small_bytes (suc n) v = All-cons (λ (b : ℕ). b < 256) (v % 256) (little_endian n (v / 256)) (omega arith) (small_bytes n (v / 256))
 
 pub length-blank : length blank ≡ 4096
 unfolding blank

@@ -4,6 +4,7 @@ use Rattle.std.specs.Prelude.{◌≡◌, ℕ, zero, suc, ◌+◌, ◌*◌, ◌/�
 use Rattle.std.specs.List.{filter, All}
 use Rattle.std.specs.Ordering.{nat_cmp}
 use Rattle.std.specs.FinMap as fin
+use Rattle.byte_numbers.specs.Numbers.{little_number}
 use Rattle.page_rights.specs.declared.rights.Rights.{Rights}
 pub use Rattle.page_rights.specs.PageRights.{reaches}
 use Rattle.page_rights.specs.declared.rights.Rights.TheVariants as may
@@ -95,23 +96,13 @@ refusal m need from n = option_map access_at (least (forbidden m need from n))
 abbrev pub is_width : ℕ → Bool
 is_width n = n == 1 || n == 2 || n == 4 || n == 8
 
--- the number that bytes spell, the lowest first
-unfoldable pub number : List ℕ → ℕ
-number [] = 0
-number (b ∷ bs) = b + 256 * number bs
-
--- the n low bytes of a number, the lowest first
-unfoldable pub bytes_of : ℕ → ℕ → List ℕ
-bytes_of zero value = []
-bytes_of (suc n) value = (value % 256) ∷ bytes_of n (value / 256)
-
 abbrev pub unless : Option Access → ℕ → Result ℕ Access
 unless None value = Ok value
 unless (Some access) value = Err access
 
 -- what a load of n bytes gives
 abbrev pub loaded : Memory → ℕ → ℕ → Result ℕ Access
-loaded m from n = unless (refusal m may.Read from n) (number (map (byte m) (addresses from n)))
+loaded m from n = unless (refusal m may.Read from n) (little_number (map (byte m) (addresses from n)))
 
 abbrev pub put_in : Memory → ℕ → Option Page → ℕ → Memory
 put_in m address None byte = m

@@ -5,7 +5,8 @@ ghost use Rattle.page_rights.specs.declared.rights.Rights.{Rights};
 ghost use Rattle.page_rights.specs.declared.rights.Rights.TheVariants as may;
 ghost use Rattle.page_rights.specs.PageRights.{lifted, within};
 ghost use Rattle.paged_memory.specs.declared.access.Access.TheVariants.{Low, Fault};
-ghost use Rattle.paged_memory.specs.PageMap.{Memory, HasWholePages, page_of, rights, byte, reaches, has, forbidden, refusal, loaded, bytes_of, put_byte, put_bytes, readable, accessible, set_pages, lift_pages};
+ghost use Rattle.byte_numbers.specs.Numbers.{little_endian};
+ghost use Rattle.paged_memory.specs.PageMap.{Memory, HasWholePages, page_of, rights, byte, reaches, has, forbidden, refusal, loaded, put_byte, put_bytes, readable, accessible, set_pages, lift_pages};
 
 /// An access is allowed exactly where no address is forbidden. It is Low exactly where some
 /// forbidden address is below 65,536. A fault names the page of the least forbidden address.
@@ -22,7 +23,7 @@ pub fn write_laws()
     ensures others { (m : Memory) (address value other : ℕ) → other ≢ address → byte (put_byte m address value) other ≡ byte m other }
     ensures rights { (m : Memory) (from : ℕ) (bytes : List ℕ) (page : ℕ) → rights (put_bytes m from bytes) page ≡ rights m page }
     ensures bytes { (m : Memory) (from : ℕ) (bytes : List ℕ) (address : ℕ) → HasWholePages m → All (λ b. b < 256) bytes → IsTrue (readable m from (length bytes)) → byte (put_bytes m from bytes) address ≡ (if within from (length bytes) address then slice_index_or bytes (address - from) 0 else byte m address) }
-    ensures reads_back { (m : Memory) (from n value : ℕ) → HasWholePages m → n ≤ 2 ^ 32 → value < 256 ^ n → refusal m may.Write from n ≡ None → loaded (put_bytes m from (bytes_of n value)) from n ≡ Ok value }
+    ensures reads_back { (m : Memory) (from n value : ℕ) → HasWholePages m → n ≤ 2 ^ 32 → value < 256 ^ n → refusal m may.Write from n ≡ None → loaded (put_bytes m from (little_endian n value)) from n ≡ Ok value }
 {}
 
 /// Each page of a range that was given rights has them, and its bytes are kept or 0; each page of a

@@ -2,7 +2,8 @@
 ghost use Rattle.std.specs.Prelude.{◌≡◌, ◌+◌, ◌≤◌, ◌<◌, ◌^◌, ◌↔◌, Some, None, Err, IsTrue, IfOk, OnOk, OnErr, length};
 ghost use Rattle.std.specs.FinMap as fin;
 ghost use Rattle.page_rights.specs.declared.rights.Rights.TheVariants as may;
-ghost use Rattle.paged_memory.specs.PageMap.{HasWholePages, HaveRights, rights, is_width, loaded, refusal, put_bytes, bytes_of, bytes_from, readable, writable, set_pages, lift_pages};
+ghost use Rattle.byte_numbers.specs.Numbers.{little_endian};
+ghost use Rattle.paged_memory.specs.PageMap.{HasWholePages, HaveRights, rights, is_width, loaded, refusal, put_bytes, bytes_from, readable, writable, set_pages, lift_pages};
 
 use crate::pages::Pages;
 use crate::{Access, Rights, StoreRefusal, reads, writes};
@@ -83,7 +84,7 @@ impl Memory {
     #[inline]
     pub fn store(&mut self, addr: u32, width: u8, value: u64) -> Result<(), StoreRefusal>
         requires { IsTrue (is_width width) }
-        ensures ok { OnOk result (self.new ≡ put_bytes self.old addr (bytes_of width value)) }
+        ensures ok { OnOk result (self.new ≡ put_bytes self.old addr (little_endian width value)) }
         ensures allowed { OnOk result (refusal self.old may.Write addr width ≡ None) }
         ensures refused { (access : Access) → (result ≡ Err (StoreRefusal.Access access)) ↔ (refusal self.old may.Write addr width ≡ Some access) }
         ensures err { OnErr result (self.new ≡ self.old) }

@@ -1,6 +1,7 @@
 // The numbers that bytes spell.
 ghost use Rattle.std.specs.Prelude.{◌≡◌, IsTrue, length};
-ghost use Rattle.paged_memory.specs.PageMap.{number, is_width};
+ghost use Rattle.byte_numbers.specs.Numbers.{little_number};
+ghost use Rattle.paged_memory.specs.PageMap.{is_width};
 
 use byteorder::{ByteOrder, LittleEndian};
 
@@ -9,7 +10,7 @@ use byteorder::{ByteOrder, LittleEndian};
 pub fn number_of(bytes: &[u8], width: u8) -> u64
     requires size { IsTrue (is_width width) }
     requires room { length bytes.now ≡ width }
-    ensures { result ≡ number bytes.now }
+    ensures { result ≡ little_number bytes.now }
 {
     match width {
         1 => u64::from(bytes[0]),

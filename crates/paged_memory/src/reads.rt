@@ -1,6 +1,7 @@
 // What is read of the pages.
 ghost use Rattle.std.specs.Prelude.{◌≡◌, ◌+◌, ◌≤◌, ◌^◌, IsTrue, length, map};
-ghost use Rattle.paged_memory.specs.PageMap.{number, is_width, rights, byte, addresses, lower, access_at, refusal, loaded, accessible, all_have, bytes_from};
+ghost use Rattle.byte_numbers.specs.Numbers.{little_number};
+ghost use Rattle.paged_memory.specs.PageMap.{is_width, rights, byte, addresses, lower, access_at, refusal, loaded, accessible, all_have, bytes_from};
 ghost use Rattle.paged_memory.specs.Seen.{seen, IsWhole};
 
 use crate::numbers::number_of;
@@ -81,7 +82,7 @@ fn number_at(held: &Pages, addr: u32, width: u8) -> u64
     requires size { IsTrue (is_width width) }
     requires room { addr + width ≤ 2 ^ 32 }
     requires whole { IsWhole held.now }
-    ensures { result ≡ number (map (byte (seen held.now)) (addresses addr width)) }
+    ensures { result ≡ little_number (map (byte (seen held.now)) (addresses addr width)) }
 {
     let mut bytes = [0u8; 8];
     let part = &mut bytes[..usize::from(width)];

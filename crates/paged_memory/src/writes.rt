@@ -1,7 +1,8 @@
 // What is written to the pages.
 ghost use Rattle.std.specs.Prelude.{◌≡◌, ◌+◌, ◌≤◌, ◌<◌, ◌^◌, ◌↔◌, ◌&&◌, ℕ, true, Some, None, Err, IsTrue, OnOk, OnErr, length};
 ghost use Rattle.page_rights.specs.declared.rights.Rights.TheVariants as may;
-ghost use Rattle.paged_memory.specs.PageMap.{bytes_of, is_width, has, reaches, put_bytes, refusal, set_pages, lift_pages, HaveRights};
+ghost use Rattle.byte_numbers.specs.Numbers.{little_endian};
+ghost use Rattle.paged_memory.specs.PageMap.{is_width, has, reaches, put_bytes, refusal, set_pages, lift_pages, HaveRights};
 ghost use Rattle.paged_memory.specs.Seen.{seen, IsWhole};
 
 use crate::pages::Pages;
@@ -27,7 +28,7 @@ pub fn put(held: &mut Pages, from: u32, bytes: &[u8]) -> Result<(), AllocError>
 pub fn store(held: &mut Pages, addr: u32, width: u8, value: u64) -> Result<(), StoreRefusal>
     requires size { IsTrue (is_width width) }
     requires whole { IsWhole held.old }
-    ensures ok { OnOk result (seen held.new ≡ put_bytes (seen held.old) addr (bytes_of width value)) }
+    ensures ok { OnOk result (seen held.new ≡ put_bytes (seen held.old) addr (little_endian width value)) }
     ensures allowed { OnOk result (refusal (seen held.old) may.Write addr width ≡ None) }
     ensures refused { (access : Access) → (result ≡ Err (StoreRefusal.Access access)) ↔ (refusal (seen held.old) may.Write addr width ≡ Some access) }
     ensures err { OnErr result (seen held.new ≡ seen held.old) }

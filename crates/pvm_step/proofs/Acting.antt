@@ -11,7 +11,8 @@ use Rattle.page_rights.specs.declared.rights.Rights.TheVariants as may
 use Rattle.paged_memory.specs.declared.access.Access.{Access}
 use Rattle.paged_memory.specs.declared.access.StoreRefusal.{StoreRefusal}
 use Rattle.paged_memory.specs.declared.access.StoreRefusal.TheVariants as refused
-use Rattle.paged_memory.specs.PageMap.{Memory, refusal, put_bytes, bytes_of}
+use Rattle.byte_numbers.specs.Numbers.{little_endian}
+use Rattle.paged_memory.specs.PageMap.{Memory, refusal, put_bytes}
 use Rattle.pvm_step.specs.declared.exit.Exit.TheVariants.{Panic}
 use Rattle.pvm_isa.specs.declared.arguments.Args.{Args}
 use Rattle.pvm_isa.specs.declared.form.Form.{Form}
@@ -22,14 +23,14 @@ use Rattle.pvm_step.specs.Effect.{MachineState, Act, Stores, line, outcome, afte
 
 -- a store that is not refused, and one that is
 pub stored-at : (p : Program) (s : MachineState) (width to value : ℕ) → refusal s.memory may.Write to width ≡ None
-    → after p s (Stores width to value) ≡ goes (record s { memory = put_bytes s.memory to (bytes_of width value) }) (next p s.pc)
+    → after p s (Stores width to value) ≡ goes (record s { memory = put_bytes s.memory to (little_endian width value) }) (next p s.pc)
 unfolding after
-stored-at p s width to value h = ap (stores p s (put_bytes s.memory to (bytes_of width value))) h
+stored-at p s width to value h = ap (stores p s (put_bytes s.memory to (little_endian width value))) h
 
 pub refused-at : (p : Program) (s : MachineState) (width to value : ℕ) (access : Access) → refusal s.memory may.Write to width ≡ Some access
     → after p s (Stores width to value) ≡ stops s (exit_of access)
 unfolding after
-refused-at p s width to value access h = ap (stores p s (put_bytes s.memory to (bytes_of width value))) h
+refused-at p s width to value access h = ap (stores p s (put_bytes s.memory to (little_endian width value))) h
 
 none_of : (o : Option Access) → ((access : Access) → o ≡ Some access → ⊥) → o ≡ None
 none_of None h = refl

@@ -8,7 +8,8 @@ use Rattle.pvm_isa.specs.declared.op.Op.{Op}
 use Rattle.blob_decode.specs.Program.{Program, Landing, to, halts, nowhere, jump_to, jump_through}
 use Rattle.page_rights.specs.declared.rights.Rights.TheVariants as may
 use Rattle.paged_memory.specs.declared.access.Access.{Access}
-use Rattle.paged_memory.specs.PageMap.{Memory, Page, Write, byte, byte_in, page_of, addresses, blank, put_in, put_byte, put_bytes, bytes_of, lift_in, lift_page, lift_pages, loaded, refusal}
+use Rattle.byte_numbers.specs.Numbers.{little_endian}
+use Rattle.paged_memory.specs.PageMap.{Memory, Page, Write, byte, byte_in, page_of, addresses, blank, put_in, put_byte, put_bytes, lift_in, lift_page, lift_pages, loaded, refusal}
 use Rattle.pvm_step.proofs.Pages.{inserted_there, inserted_other}
 use Rattle.pvm_alu.specs.Alu.{loaded_bytes, widen}
 use Rattle.pvm_step.specs.Effect.{MachineState, Act, Nothing, Exits, Sets, Loads, Stores, Jumps, Branches, JumpsThrough, SetsAndJumps, SetsAndJumpsThrough, Moves, Grows, after, value_in, with_register, lands, loads, stores, grown, goes, pages_touched}
@@ -51,7 +52,7 @@ leaves-registers p s Nothing q h = refl
 leaves-registers p s (Exits exit) q h = refl
 leaves-registers p s (Sets r v) q h = other s r v q h
 leaves-registers p s (Loads r op from) q h = loads-other p s r q op (loaded s.memory from (loaded_bytes op)) h
-leaves-registers p s (Stores width from v) q h = ap (λ (xs : List ℕ). get_or xs q 0) (stores-registers p s (put_bytes s.memory from (bytes_of width v)) (refusal s.memory may.Write from width))
+leaves-registers p s (Stores width from v) q h = ap (λ (xs : List ℕ). get_or xs q 0) (stores-registers p s (put_bytes s.memory from (little_endian width v)) (refusal s.memory may.Write from width))
 leaves-registers p s (Jumps target) q h = ap (λ (xs : List ℕ). get_or xs q 0) (landed-registers s (jump_to p target))
 leaves-registers p s (Branches taken target) q h = ap (λ (xs : List ℕ). get_or xs q 0) (branch-registers taken s (jump_to p target) _)
 leaves-registers p s (JumpsThrough through) q h = ap (λ (xs : List ℕ). get_or xs q 0) (landed-registers s (jump_through p through))
@@ -118,8 +119,8 @@ byte-put_byte m a b q apart = elim (fin.get m (page_of a)) as (λ (o : Option Pa
   | Some page ↦ λ e. byte-in_other m a b q page e apart (same_or_not (page_of q) (page_of a))
 ] refl
 
-pub byte-put_bytes : (width : ℕ) (m : Memory) (from v q : ℕ) → (Contains (addresses from width) q → ⊥) → byte (put_bytes m from (bytes_of width v)) q ≡ byte m q
-unfolding put_bytes bytes_of addresses
+pub byte-put_bytes : (width : ℕ) (m : Memory) (from v q : ℕ) → (Contains (addresses from width) q → ⊥) → byte (put_bytes m from (little_endian width v)) q ≡ byte m q
+unfolding put_bytes little_endian addresses
 byte-put_bytes zero m from v q h = refl
 byte-put_bytes (suc n) m from v q h =
     byte-put_bytes n (put_byte m (from % 2 ^ 32) (v % 256)) (from + 1) (v / 256) q (λ in_rest. h (suc in_rest.0, omega (arith, in_rest.1), in_rest.2))
@@ -153,7 +154,7 @@ byte-lift_pages zero m first q = refl
 byte-lift_pages (suc n) m first q = byte-lift_pages n (lift_page m first) (first + 1) q ∙ byte-lift_page m first q
 
 stores-bytes : (p : Program) (s : MachineState) (width from v q : ℕ) (o : Option Access) → (Contains (addresses from width) q → ⊥)
-    → byte (stores p s (put_bytes s.memory from (bytes_of width v)) o).state.memory q ≡ byte s.memory q
+    → byte (stores p s (put_bytes s.memory from (little_endian width v)) o).state.memory q ≡ byte s.memory q
 stores-bytes p s width from v q None h = byte-put_bytes width s.memory from v q h
 stores-bytes p s width from v q (Some access) h = refl
 

@@ -8,7 +8,8 @@ use Rattle.blob_decode.specs.Program.{Program, Landing, to, halts, nowhere, jump
 use Rattle.page_rights.specs.declared.rights.Rights.TheVariants as may
 use Rattle.paged_memory.specs.declared.access.Access.{Access}
 use Rattle.paged_memory.specs.declared.access.Access.TheVariants as access
-use Rattle.paged_memory.specs.PageMap.{Memory, loaded, refusal, put_bytes, bytes_of}
+use Rattle.byte_numbers.specs.Numbers.{little_endian}
+use Rattle.paged_memory.specs.PageMap.{Memory, loaded, refusal, put_bytes}
 use Rattle.pvm_alu.specs.Alu.{loaded_bytes}
 use Rattle.pvm_step.specs.declared.exit.Exit.{Exit}
 use Rattle.pvm_step.specs.declared.exit.Exit.TheVariants.{Halt, Panic, OutOfGas, Fault, Host}
@@ -67,7 +68,7 @@ after-out p s Nothing h = refl
 after-out p s (Exits exit) h = h
 after-out p s (Sets r v) h = refl
 after-out p s (Loads r op from) h = loads-out p s r op (loaded s.memory from (loaded_bytes op))
-after-out p s (Stores width from v) h = stores-out p s (put_bytes s.memory from (bytes_of width v)) (refusal s.memory may.Write from width)
+after-out p s (Stores width from v) h = stores-out p s (put_bytes s.memory from (little_endian width v)) (refusal s.memory may.Write from width)
 after-out p s (Jumps target) h = lands-out s (jump_to p target)
 after-out p s (Branches taken target) h = branches-out taken s (jump_to p target) _
 after-out p s (JumpsThrough through) h = lands-out s (jump_through p through)

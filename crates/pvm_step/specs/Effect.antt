@@ -11,7 +11,8 @@ use Rattle.blob_decode.specs.Program.{Program, Landing, to, halts, nowhere, op_a
 use Rattle.page_rights.specs.declared.rights.Rights.TheVariants as may
 use Rattle.paged_memory.specs.declared.access.Access.{Access}
 use Rattle.paged_memory.specs.declared.access.Access.TheVariants as access
-use Rattle.paged_memory.specs.PageMap.{Memory, page_of, loaded, refusal, put_bytes, bytes_of, lift_pages}
+use Rattle.byte_numbers.specs.Numbers.{little_endian}
+use Rattle.paged_memory.specs.PageMap.{Memory, page_of, loaded, refusal, put_bytes, lift_pages}
 use Rattle.pvm_step.specs.declared.exit.Exit.{Exit}
 use Rattle.pvm_step.specs.declared.exit.Exit.TheVariants.{Halt, Panic, Fault, Host}
 
@@ -300,7 +301,7 @@ after p s Nothing = goes s (next p s.pc)
 after p s (Exits exit) = stops s exit
 after p s (Sets register value) = goes (with_register s register value) (next p s.pc)
 after p s (Loads register op from) = loads p s register op (loaded s.memory from (loaded_bytes op))
-after p s (Stores width from value) = stores p s (put_bytes s.memory from (bytes_of width value)) (refusal s.memory may.Write from width)
+after p s (Stores width from value) = stores p s (put_bytes s.memory from (little_endian width value)) (refusal s.memory may.Write from width)
 after p s (Jumps target) = lands s (jump_to p target)
 after p s (Branches taken target) = if taken then lands s (jump_to p target) else goes s (next p s.pc)
 after p s (JumpsThrough through) = lands s (jump_through p through)

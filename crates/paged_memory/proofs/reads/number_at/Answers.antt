@@ -1,5 +1,5 @@
 use Rattle.std.proofs.Common.{◌≡◌, ◌∙◌, ap, take, drop, length, rules}
-use Rattle.paged_memory.specs.PageMap.{number}
+use Rattle.byte_numbers.specs.Numbers.{little_number}
 use Rattle.paged_memory.proofs.Sight.{numbers_read}
 use Rattle.paged_memory.proofs.reads.number_at.Goals as goal
 
@@ -7,4 +7,4 @@ pub returns : goal.returns
 returns c =
     let size : length c.read.new.buf ≡ c.args.width = search rules in
     let all : c.read.new.buf ≡ take c.args.width (drop c.args.addr c.args.held.now.bytes) = search rules in
-    c.number_of.ensures ∙ ap number (all ∙ numbers_read c.args.width c.args.held.now c.args.addr c.requires.whole c.requires.room)
+    c.number_of.ensures ∙ ap little_number (all ∙ numbers_read c.args.width c.args.held.now c.args.addr c.requires.whole c.requires.room)

@@ -1,6 +1,6 @@
 use Rattle.std.proofs.Common.{◌∙◌, ap, refl}
 use Rattle.std.proofs.lemmas.Result.{on_ok_weaker}
-use Rattle.paged_memory.specs.Seen.{seen_from, IsWhole}
+use Rattle.paged_memory.specs.Seen.{seen_from}
 use Rattle.paged_memory.proofs.Ranges.{lift_seen, whole_lifted}
 use Rattle.paged_memory.proofs.Writing.{on_result, whole_by}
 use Rattle.paged_memory.proofs.writes.lift_range.Goals as goal

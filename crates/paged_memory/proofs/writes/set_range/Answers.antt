@@ -1,4 +1,4 @@
-use Rattle.std.proofs.Common.{◌∙◌, ap, sym, subst}
+use Rattle.std.proofs.Common.{◌∙◌, ap, sym}
 use Rattle.paged_memory.specs.PageMap.{set_pages}
 use Rattle.paged_memory.specs.Seen.{seen, seen_from}
 use Rattle.paged_memory.proofs.Ranges.{not_kept, is_kept, set_kept, set_zeroed, whole_kept, whole_zeroed}

@@ -4,7 +4,7 @@ use Rattle.std.proofs.lemmas.List.{length-take}
 use Rattle.page_rights.specs.declared.rights.Rights.TheVariants as may
 use Rattle.paged_memory.specs.PageMap.{put_bytes}
 use Rattle.paged_memory.specs.Seen.{seen}
-use Rattle.paged_memory.proofs.Spelled.{low_bytes}
+use Rattle.byte_numbers.specs.NumberLaws.{low_bytes}
 use Rattle.paged_memory.proofs.Writing.{no_wrap, allowed_each}
 use Rattle.paged_memory.proofs.writes.store.Goals as goal
 
