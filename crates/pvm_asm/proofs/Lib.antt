@@ -4,3 +4,4 @@ pub mod Pushed
 pub mod Places
 pub mod Opcodes
 pub mod Surveys
+pub mod Sizes

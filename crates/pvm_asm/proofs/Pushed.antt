@@ -1,7 +1,7 @@
 -- What is added one item at a time.
 use Rattle.std.proofs.Common.{◌≡◌, ◌<◌, ◌+◌, ◌-◌, ◌/◌, ◌%◌, ℕ, zero, suc, List, [], ◌∷◌, ◌++◌, length, drop, get_or, replicate, sym, ap, ◌∙◌, arith, append-nil, append_assoc}
 use Rattle.std.proofs.Math.Seq.{drop-cons}
-use Rattle.jam_codec.specs.Spelling.{little_endian}
+use Rattle.byte_numbers.specs.Numbers.{little_endian}
 use Rattle.pvm_asm.specs.Assembly.{entry_bytes}
 
 -- the first of k > 0 bytes was added

@@ -1,7 +1,8 @@
 -- The assembly of a text: its bytes, or the first line that is refused (this project's own).
 use Rattle.std.specs.Prelude.{ℕ, ◌+◌, ◌-◌, ◌*◌, ◌%◌, ◌^◌, Bool, true, false, not, ◌||◌, ◌&&◌, ◌==◌, nat_lt, nat_le, List, [], ◌∷◌, ◌++◌, length, map, replicate, if◌then◌else◌, Option, Some, None, is_some, Result, Ok, Err}
 use Rattle.std.specs.Option.{unwrap_or, option_map}
-use Rattle.jam_codec.specs.Spelling.{natural, little_endian, packed}
+use Rattle.byte_numbers.specs.Numbers.{little_endian}
+use Rattle.jam_codec.specs.Spelling.{natural, packed}
 use Rattle.pvm_isa.specs.declared.form.Form.{Form}
 use Rattle.pvm_isa.specs.declared.form.Form.TheVariants.{F1, F2, F3, F4, F5, F6, F7, F8, F9, F10, F11, F12, F13}
 use Rattle.pvm_isa.specs.Opcodes.{number_of, form_of}

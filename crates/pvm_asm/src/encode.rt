@@ -1,6 +1,6 @@
 // The bytes of instructions.
 ghost use Rattle.std.specs.Prelude.{◌≡◌, [], ◌∷◌, ◌++◌, OnOk};
-ghost use Rattle.jam_codec.specs.Spelling.{little_endian};
+ghost use Rattle.byte_numbers.specs.Numbers.{little_endian};
 ghost use Rattle.pvm_asm.specs.Assembly.{immediate_bytes, x_bytes, halves, between, distance, target_bytes, instruction_bytes};
 
 use crate::instruction::{Instruction, Target};

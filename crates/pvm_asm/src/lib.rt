@@ -10,6 +10,7 @@ mod instruction;
 mod keyword;
 mod kind;
 mod labels;
+mod laws;
 mod line;
 mod numeral;
 mod opcode;
@@ -20,4 +21,5 @@ mod words;
 
 pub use assembly::assemble;
 pub use kind::{AsmKind, kind_text};
+pub use laws::size_law;
 pub use refusal::AsmRefusal;

@@ -1,5 +1,5 @@
 use Rattle.std.proofs.Common.{◌≡◌, ◌-◌, ◌++◌}
-use Rattle.jam_codec.specs.Spelling.{little_endian}
+use Rattle.byte_numbers.specs.Numbers.{little_endian}
 use Rattle.pvm_asm.proofs.encode.push_low.Given as goal
 
 abbrev pub invariant-loop-byte : goal.invariant-loop-byte
