@@ -200,7 +200,8 @@ fn refused(place: u64) -> Status {
 fn other_words_and_other_blobs_are_refused(rt: HostRuntime) -> Result<(), Fail> {
     let alloc = rt.alloc();
     let run: &[&str] = &["run", "blob", "7"];
-    let rows: [(&[&str], &[u8], Status); 15] = [
+    let trace: &[&str] = &["trace", "blob", "4294967295", "7", "aAfF", "1000"];
+    let rows: [(&[&str], &[u8], Status); 26] = [
         (&[], &FIRST_RUN, Status::BadWords),
         (&["run", "blob"], &FIRST_RUN, Status::BadWords),
         (&["run", "blob", "7", "7"], &FIRST_RUN, Status::BadWords),
@@ -214,6 +215,43 @@ fn other_words_and_other_blobs_are_refused(rt: HostRuntime) -> Result<(), Fail> 
         ),
         (&["hash"], &FIRST_RUN, Status::BadWords),
         (&["hash", ""], &FIRST_RUN, Status::BadWords),
+        (&["show"], &FIRST_RUN, Status::BadWords),
+        (&["show", "blob", "blob"], &FIRST_RUN, Status::BadWords),
+        (&["asm", "blob", "blob"], &FIRST_RUN, Status::BadWords),
+        (
+            &["trace", "blob", "0", "7", "-"],
+            &FIRST_RUN,
+            Status::BadWords,
+        ),
+        (
+            &["trace", "blob", "4294967296", "7", "-", "1"],
+            &FIRST_RUN,
+            Status::BadWords,
+        ),
+        (
+            &["trace", "blob", "0", "7", "0", "1"],
+            &FIRST_RUN,
+            Status::BadWords,
+        ),
+        (
+            &["trace", "blob", "0", "7", "-", "0"],
+            &FIRST_RUN,
+            Status::BadWords,
+        ),
+        (
+            &["trace", "blob", "0", "7", "-", "1001"],
+            &FIRST_RUN,
+            Status::BadWords,
+        ),
+        // As a standard program, its first 11 bytes ask for 655,360 more.
+        (trace, &FIRST_RUN, refused(11)),
+        // One that traps at once, whatever the entry.
+        (
+            trace,
+            b"\0\0\0\0\0\0\0\0\0\0\0\x03\0\0\0\0\0\0",
+            Status::Done,
+        ),
+        (&["show", "blob"], &FIRST_RUN, refused(0)),
         // The mask of two bytes begins at 13.
         (run, &FIRST_RUN[..14], refused(13)),
         // A width of 9.
