@@ -1,13 +1,13 @@
 -- The end of a run that had as much fuel as gas.
-use Rattle.std.proofs.Common.{◌≡◌, ℕ, ◌+◌, ◌<◌, ◌≤◌, List, [], ◌++◌, append-nil, ap, sym, subst, ◌∙◌, refl, arith, Option, Some, None}
+use Rattle.std.proofs.Common.{◌≡◌, ℕ, ◌+◌, ◌<◌, ◌≤◌, List, ◌++◌, append-nil, ap, sym, ◌∙◌, refl, arith, Some, None}
 use Rattle.gas_ledger.specs.Schedule.{IsSchedule}
 use Rattle.blob_decode.specs.Program.{Program}
 use Rattle.pvm_step.specs.declared.exit.Exit.{Exit}
 use Rattle.pvm_step.specs.declared.exit.Exit.TheVariants.{OutOfGas}
 use Rattle.pvm_step.specs.declared.watcher.PaidInstruction.{PaidInstruction}
 use Rattle.pvm_step.specs.History.{Moment, cost, step, reached, answer, states, history}
-use Rattle.pvm_step.specs.Watched.{paid_at, paid_instructions}
-use Rattle.pvm_step.proofs.Steps.{step-short, step-costs, cost-paid}
+use Rattle.pvm_step.specs.Watched.{paid_instructions}
+use Rattle.pvm_step.proofs.Steps.{step-short, cost-paid}
 use Rattle.pvm_step.proofs.Reached.{made-more, stays_ended, each_costs, reached-answer, reached-schedule}
 use Rattle.pvm_step.proofs.Watched.{paid-to_end, paid-all, paid-more, paid_at-short}
 

@@ -1,6 +1,5 @@
-use Rattle.std.proofs.Common.{◌≡◌, ℕ, ◌≤◌, ap, sym, ◌∙◌, refl, arith, None, Some}
-use Rattle.pvm_step.specs.declared.exit.Exit.{Exit}
-use Rattle.pvm_step.specs.History.{Moment, reached, answer, history}
+use Rattle.std.proofs.Common.{◌≡◌, ap, sym, ◌∙◌, refl, arith, None, Some}
+use Rattle.pvm_step.specs.History.{Moment, reached}
 use Rattle.pvm_step.specs.Machine.{moment, exit_in}
 use Rattle.pvm_step.proofs.RunEnds.{ended-answer, ended-told, paused-gas, paused-told}
 use Rattle.pvm_step.proofs.Watched.{told-same}
