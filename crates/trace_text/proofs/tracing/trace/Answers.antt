@@ -1,4 +1,4 @@
-use Rattle.std.proofs.Common.{◌≡◌, ℕ, ◌-◌, ◌≤◌, List, [], length, take, drop, map, ap, sym, ◌∙◌, None}
+use Rattle.std.proofs.Common.{◌≡◌, ℕ, ◌-◌, List, [], length, take, drop, map, ap, sym, ◌∙◌, None}
 use Rattle.std.proofs.lemmas.List.{take_rest}
 use Rattle.circular_buffer.specs.Buffer.{buffer, keep_last}
 use Rattle.pvm_step.specs.declared.watcher.PaidInstruction.{PaidInstruction}
