@@ -1,5 +1,5 @@
 -- The areas of a first memory (Gray Paper 0.7.0, appendix A.7).
-use Rattle.std.specs.Prelude.{ℕ, ◌+◌, ◌-◌, ◌*◌, ◌/◌, ◌^◌, Bool, false, List, [], ◌∷◌, length}
+use Rattle.std.specs.Prelude.{ℕ, ◌+◌, ◌-◌, ◌*◌, ◌/◌, ◌^◌, false, List, [], ◌∷◌, length}
 use Rattle.std.specs.FinMap as fin
 use Rattle.page_rights.specs.declared.rights.Rights.{Rights}
 use Rattle.page_rights.specs.declared.rights.Rights.TheVariants as may

@@ -1,5 +1,5 @@
 -- Why no machine was made.
-use Rattle.std.specs.Prelude.{◌≡◌, ℕ, ◌^◌, ◌<◌, List, length}
+use Rattle.std.specs.Prelude.{ℕ, ◌^◌, ◌<◌, List, length}
 use Rattle.jam_codec.specs.Format.{from, Spells}
 use Rattle.jam_codec.specs.Laws.{Longest, SpellsNone}
 use Rattle.program_init.specs.declared.refusal.StartRefusal.{StartRefusal}

@@ -1,16 +1,16 @@
 -- The laws of the bytes of standard programs.
-use Rattle.std.proofs.Common.{◌≡◌, ℕ, ◌+◌, List, ◌++◌, length, take, refl, sym, ap, ◌∙◌, subst, true, Result, Ok, Err}
+use Rattle.std.proofs.Common.{◌≡◌, ℕ, ◌+◌, List, ◌++◌, length, refl, sym, ap, ◌∙◌, subst, Result, Ok, Err}
 use Rattle.std.proofs.lemmas.List.{take_at}
-use Rattle.jam_codec.specs.Reading.{Reading, Takes, ◌>>=◌}
-use Rattle.jam_codec.specs.Format.{Format, Spells, from, any, whole, both, fixed_where, bytes_where}
+use Rattle.jam_codec.specs.Reading.{Reading, Takes}
+use Rattle.jam_codec.specs.Format.{Format, Spells, from, any, whole, both, bytes_where}
 use Rattle.byte_numbers.specs.Numbers.{AreBytes}
-use Rattle.jam_codec.specs.Laws.{IsCode, IsFormat}
+use Rattle.jam_codec.specs.Laws.{IsFormat}
 use Rattle.byte_numbers.specs.NumberLaws.{AreBytes-take}
 use Rattle.jam_codec.specs.JoinLaws.{chain_ok, ok_parts, field_laws}
 use Rattle.jam_codec.specs.FormatLaws.{both_laws, by_laws, fixed_laws, bytes_laws, file_laws}
-use Rattle.blob_decode.specs.Program.{Program, program_blob}
+use Rattle.blob_decode.specs.Program.{program_blob}
 use Rattle.blob_decode.specs.BlobLaws.{program_blob_laws}
-use Rattle.program_init.specs.Standard.{Standard, alone, enclosed_at, enclosed, Head, head, code_size, with_code, head_of, standard_of, outer, standard_program}
+use Rattle.program_init.specs.Standard.{alone, enclosed_at, enclosed, Head, head, code_size, with_code, head_of, standard_of, outer, standard_program}
 
 -- ---- A value that stands alone
 
