@@ -7,3 +7,5 @@ pub mod Carried
 pub mod Endings
 pub mod Hexadecimals
 pub mod Texts
+pub mod Traces
+pub mod TraceWords

@@ -1,5 +1,5 @@
 -- Texts that are not UTF-8, and work that may refuse a line.
-use Rattle.std.proofs.Common.{◌≡◌, ℕ, ◌≤◌, List, [], ◌++◌, length, refl, sym, ap, ◌∙◌, subst, arith, Result, Ok, Err}
+use Rattle.std.proofs.Common.{ℕ, List, [], length, refl, sym, ap, ◌∙◌, subst, arith, Result, Ok, Err}
 use Rattle.std.specs.Str.{IsUtf8}
 use Rattle.jam_codec.specs.declared.refusal.FileRefusal.TheVariants.{Malformed}
 use Rattle.jam_cli.specs.declared.verb.Kind.TheVariants.{Text}
