@@ -38,7 +38,12 @@ fn output_of(alloc: Global, machine: &Machine, exit: Exit) -> Result<Vec<u8>, Al
 }
 
 /// What the run of a machine with so much gas came to, where it ended so.
-pub fn outcome_of(alloc: Global, machine: &Machine, exit: Exit, gas: u64) -> Result<Outcome, AllocError>
+pub fn outcome_of(
+    alloc: Global,
+    machine: &Machine,
+    exit: Exit,
+    gas: u64,
+) -> Result<Outcome, AllocError>
     ensures { IfOk result (λ outcome. outcome ≡ outcome_by gas (moment machine.now (Some exit)) exit) }
 {
     let output = output_of(alloc, machine, exit)?;

@@ -10,6 +10,7 @@ use paged_memory::{Memory, Rights};
 use std::alloc::{AllocError, Global};
 
 const PAGE: u64 = 4096;
+
 pub const ZONE: u64 = 65536;
 
 /// Where the stack ends.
@@ -88,7 +89,13 @@ pub fn first_memory(alloc: Global, parts: &Parts<'_>, args: &[u8]) -> Result<Mem
     let mut memory = Memory::new(alloc);
     let read_only = in_pages(parts.ro.len() as u64);
     lay_out(&mut memory, ZONE, read_only, Rights::Read, parts.ro)?;
-    lay_out(&mut memory, writable_start(parts), writable_size(parts), Rights::Write, parts.rw)?;
+    lay_out(
+        &mut memory,
+        writable_start(parts),
+        writable_size(parts),
+        Rights::Write,
+        parts.rw,
+    )?;
     let stack = in_pages(u64::from(parts.stack));
     lay_out(&mut memory, STACK_END - stack, stack, Rights::Write, &[])?;
     let arguments = in_pages(args.len() as u64);

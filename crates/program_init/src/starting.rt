@@ -99,7 +99,14 @@ impl StandardProgram {
         ensures fits { IfOk result (λ machine. length args.now ≤ argument_limit) }
         ensures refused { IfErr result (λ e. (e ≡ NoMemory) ⊎ ((e ≡ ArgsTooLong) × (argument_limit < length args.now))) }
     {
-        start_with(alloc, &self.parts(), self.program.clone()?, entry, gas, args)
+        start_with(
+            alloc,
+            &self.parts(),
+            self.program.clone()?,
+            entry,
+            gas,
+            args,
+        )
     }
 }
 

@@ -15,7 +15,11 @@ fn has_byte(rt: &impl Abort, memory: &Memory, addr: u32, wanted: Result<u64, Acc
 
 fn has_rights(rt: &impl Abort, memory: &Memory, first: u32, rights: [Rights; 3]) {
     for k in 0..3u32 {
-        assert_eq!(rt; memory.rights(first + k), rights[k as usize], "page {k} from {first}");
+        assert_eq!(rt;
+            memory.rights(first + k),
+            rights[k as usize],
+            "page {k} from {first}"
+        );
     }
 }
 
@@ -54,10 +58,27 @@ fn each_area_has_its_bounds_and_bytes(rt: HostRuntime) -> Result<(), AllocError>
     }
     has_byte(&rt, &machine.memory, 208_896, Err(Access::Fault(208_896)));
     assert_eq!(rt; (machine.pc, machine.ledger.left()), (3, 77));
-    assert_eq!(rt; (machine.heap.next(), machine.heap.end()), (208_896, 4_277_927_936));
+    assert_eq!(rt;
+        (machine.heap.next(), machine.heap.end()),
+        (208_896, 4_277_927_936)
+    );
     assert_eq!(rt;
         machine.registers,
-        [4_294_901_760, 4_278_059_008, 0, 0, 0, 0, 0, 4_278_124_544, 2, 0, 0, 0, 0]
+        [
+            4_294_901_760,
+            4_278_059_008,
+            0,
+            0,
+            0,
+            0,
+            0,
+            4_278_124_544,
+            2,
+            0,
+            0,
+            0,
+            0
+        ]
     );
     Ok(())
 }

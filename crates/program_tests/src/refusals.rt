@@ -1,6 +1,6 @@
 //! Bytes that are no standard program, and arguments that are too long.
-use program_init::{StartRefusal, read_standard, split, start};
 use jam_codec::FileRefusal;
+use program_init::{StartRefusal, read_standard, split, start};
 use std::alloc::{AllocError, Global};
 use std::process::Abort;
 
