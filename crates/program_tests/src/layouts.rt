@@ -16,7 +16,7 @@ fn has_byte(rt: &impl Abort, memory: &Memory, addr: u32, wanted: Result<u64, Acc
 fn has_rights(rt: &impl Abort, memory: &Memory, first: u32, rights: [Rights; 3]) {
     for k in 0..3u32 {
         assert_eq!(rt;
-            memory.rights(first + k),
+            memory.rights(first.wrapping_add(k)),
             rights[k as usize],
             "page {k} from {first}"
         );
