@@ -51,7 +51,7 @@ call_charge = 10
 -- ---- What a call leaves
 
 -- its answer, the machine, and what else it may change
-pub record Called (X : Type 0) : Type 0 where
+pub record CallOutcome (X : Type 0) : Type 0 where
   pub answer : HostStep
   pub machine : Machine
   pub context : X
@@ -72,39 +72,39 @@ part value from n = take n (drop from value)
 
 module _ {X : Type 0} where
   -- the machine runs on, with a result in register 7
-  abbrev pub answers : ℕ → Machine → X → Called X
-  answers result m x = record { answer = Go; machine = with_word m 7 result; context = x }
+  abbrev pub answering : ℕ → Machine → X → CallOutcome X
+  answering result m x = record { answer = Go; machine = with_word m 7 result; context = x }
 
   -- the run ends, since memory that the call names is not accessible
-  abbrev pub panics : Machine → X → Called X
-  panics m x = record { answer = End Panic; machine = m; context = x }
+  abbrev pub panicking : Machine → X → CallOutcome X
+  panicking m x = record { answer = End Panic; machine = m; context = x }
 
   -- the call costs so much, and goes on with what is left. Where that cannot be paid no gas is left, and nothing else is done
-  abbrev pub costs : ℕ → Machine → X → (Machine → Called X) → Called X
-  costs cost m x call = if nat_le cost m.gas then call (record m { gas = m.gas - cost }) else record { answer = Unpaid; machine = record m { gas = 0 }; context = x }
+  abbrev pub paying : ℕ → Machine → X → (Machine → CallOutcome X) → CallOutcome X
+  paying cost m x call = if nat_le cost m.gas then call (record m { gas = m.gas - cost }) else record { answer = Unpaid; machine = record m { gas = 0 }; context = x }
 
-  abbrev pub with_bytes : Option (List ℕ) → Machine → X → (List ℕ → Called X) → Called X
-  with_bytes None m x call = panics m x
+  abbrev pub with_bytes : Option (List ℕ) → Machine → X → (List ℕ → CallOutcome X) → CallOutcome X
+  with_bytes None m x call = panicking m x
   with_bytes (Some bytes) m x call = call bytes
 
   -- the call takes the n bytes at an address in
-  abbrev pub takes : ℕ → ℕ → Machine → X → (List ℕ → Called X) → Called X
-  takes address n m x call = with_bytes (readable_bytes m.memory address n) m x call
+  abbrev pub taking : ℕ → ℕ → Machine → X → (List ℕ → CallOutcome X) → CallOutcome X
+  taking address n m x call = with_bytes (readable_bytes m.memory address n) m x call
 
   -- bytes go out to an address, and then this is the result
-  abbrev pub puts : ℕ → List ℕ → ℕ → Machine → X → Called X
-  puts address bytes result m x = if writable m.memory address (length bytes) then answers result (record m { memory = put_bytes m.memory address bytes }) x else panics m x
+  abbrev pub putting : ℕ → List ℕ → ℕ → Machine → X → CallOutcome X
+  putting address bytes result m x = if writable m.memory address (length bytes) then answering result (record m { memory = put_bytes m.memory address bytes }) x else panicking m x
 
   -- a value is given: so many of its bytes from a place on go out to an address, and its length is the result. Where there is no value,
   -- no memory is tested
-  abbrev pub gives : Option (List ℕ) → ℕ → ℕ → ℕ → Machine → X → Called X
-  gives None address from n m x = answers result_none m x
-  gives (Some value) address from n m x = puts address (part value from n) (length value) m x
+  abbrev pub giving : Option (List ℕ) → ℕ → ℕ → ℕ → Machine → X → CallOutcome X
+  giving None address from n m x = answering result_none m x
+  giving (Some value) address from n m x = putting address (part value from n) (length value) m x
 
 -- the service that a word names, for a service with this number: its own for 2 ^ 64 - 1, and none from 2 ^ 32 on
 abbrev pub service_named : ℕ → ℕ → Option ℕ
 service_named own word = if word == 2 ^ 64 - 1 then Some own else if nat_lt word (2 ^ 32) then Some word else None
 
 -- a call that changes nothing but the machine leaves the rest
-abbrev pub beside : {X : Type 0} → X → Called (Unit {0}) → Called X
+abbrev pub beside : {X : Type 0} → X → CallOutcome (Unit {0}) → CallOutcome X
 beside x called = record { answer = called.answer; machine = called.machine; context = x }

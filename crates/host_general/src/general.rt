@@ -42,9 +42,9 @@ pub fn call_fetch(machine: &mut Machine, inputs: &Inputs) -> Result<HostStep, Al
     if !charge(machine, CALL_CHARGE) {
         return Ok(HostStep::Unpaid);
     }
-    let [.., to, from, count, kind, index, _] = machine.registers;
-    let value = inputs.value(kind, index);
-    give(machine, value, to, from, count)
+    let registers = machine.registers;
+    let value = inputs.value(registers[10], registers[11]);
+    give(machine, value, registers[7], registers[8], registers[9])
 }
 
 /// 2, lookup: the preimage of the hash at r8, of service r7, is given to r9 from r10 on, at most r11 bytes.
@@ -57,17 +57,12 @@ pub fn call_lookup<S: Scope>(machine: &mut Machine, scope: &S) -> Result<HostSte
     if !charge(machine, CALL_CHARGE) {
         return Ok(HostStep::Unpaid);
     }
-    let [.., service, hash_at, to, from, count, _] = machine.registers;
-    let Some(hash) = hash_in(&machine.memory, hash_at) else {
+    let registers = machine.registers;
+    let Some(hash) = hash_in(&machine.memory, registers[8]) else {
         return Ok(HostStep::End(Exit::Panic));
     };
-    give(
-        machine,
-        preimage_named(scope, service, &hash),
-        to,
-        from,
-        count,
-    )
+    let value = preimage_named(scope, registers[7], &hash);
+    give(machine, value, registers[9], registers[10], registers[11])
 }
 
 /// 3, read: the value under the key of r9 bytes at r8, of service r7, is given to r10 from r11 on, at most r12 bytes.
@@ -84,17 +79,12 @@ pub fn call_read<S: Scope>(
     if !charge(machine, CALL_CHARGE) {
         return Ok(HostStep::Unpaid);
     }
-    let [.., service, key_at, key_length, to, from, count] = machine.registers;
-    let Some(key) = bytes_in(alloc, &machine.memory, key_at, key_length)? else {
+    let registers = machine.registers;
+    let Some(key) = bytes_in(alloc, &machine.memory, registers[8], registers[9])? else {
         return Ok(HostStep::End(Exit::Panic));
     };
-    give(
-        machine,
-        value_named(scope, service, &key),
-        to,
-        from,
-        count,
-    )
+    let value = value_named(scope, registers[7], &key);
+    give(machine, value, registers[10], registers[11], registers[12])
 }
 
 /// 5, info: the text of service r7 is given to r8 from r9 on, at most r10 bytes.
@@ -111,12 +101,10 @@ pub fn call_info<S: Scope>(
     if !charge(machine, CALL_CHARGE) {
         return Ok(HostStep::Unpaid);
     }
-    let [.., service, to, from, count, _, _] = machine.registers;
-    match view_named(scope, service) {
-        Some(view) => {
-            let text = info_text(alloc, &view)?;
-            give(machine, Some(&text), to, from, count)
-        }
-        None => Ok(answer(machine, NONE)),
-    }
+    let registers = machine.registers;
+    let Some(view) = view_named(scope, registers[7]) else {
+        return Ok(answer(machine, NONE));
+    };
+    let text = info_text(alloc, &view)?;
+    give(machine, Some(&text), registers[8], registers[9], registers[10])
 }

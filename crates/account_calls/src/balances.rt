@@ -1,0 +1,29 @@
+// What the own balance carries.
+ghost use Rattle.std.specs.Prelude.{◌≡◌, ◌<◌, ◌^◌};
+ghost use Rattle.account_context.specs.Context.{own_account, view_of};
+ghost use Rattle.account_calls.specs.AccountCalls.{can_spend};
+
+use account_context::{AccountView, Scope};
+use jam_accounts::threshold;
+
+/// The own account.
+pub fn own_view<S: Scope>(scope: &S) -> AccountView
+    ensures { result ≡ view_of (own_account (S.pair scope.now)) }
+{
+    match scope.view(scope.service()) {
+        Some(view) => view,
+        None => unreachable!(),
+    }
+}
+
+/// What is left of the own balance once an amount is spent, where it carries that beside the deposits.
+pub fn balance_after<S: Scope>(scope: &S, amount: u64) -> Option<u64>
+    ensures { result ≡ (if can_spend (own_account (S.pair scope.now)) amount then Some ((own_account (S.pair scope.now)).balance - amount) else None) }
+{
+    let own = own_view(scope);
+    let needed = threshold(own.footprint, own.gratis) + u128::from(amount);
+    if needed > u128::from(own.balance) {
+        return None;
+    }
+    Some(own.balance - amount)
+}
