@@ -2,6 +2,7 @@
 ghost use Rattle.std.specs.Prelude.{◌≡◌, false, Some, IfOk};
 ghost use Rattle.account_context.specs.Context.{own_account, set_history, IsOwnWithinBound};
 ghost use Rattle.host_general.specs.Deposits.{is_overdrawn};
+ghost use Rattle.call_parts.specs.Calls.{no_context};
 ghost use Rattle.account_calls.specs.AccountCalls.{query_call, solicit_call, forget_call, forgotten};
 
 use crate::balances::own_view;
@@ -23,7 +24,7 @@ pub fn call_query<S: Scope>(
     scope: &mut S,
     _slot: u32,
 ) -> Result<HostStep, AllocError>
-    ensures row { IfOk result (λ step. query_call (S.pair scope.old) machine.old ≡ record { answer = step; machine = machine.new; context = tt }) }
+    ensures row { IfOk result (λ step. query_call (S.pair scope.old) machine.old ≡ record { answer = step; machine = machine.new; context = no_context }) }
     ensures same { IfOk result (λ step. S.pair scope.new ≡ S.pair scope.old) }
 {
     if !charge(machine, CALL_CHARGE) {

@@ -56,6 +56,10 @@ pub record CallOutcome (X : Type 0) : Type 0 where
   pub machine : Machine
   pub context : X
 
+-- of a call that changes nothing but the machine
+abbrev pub no_context : Unit {0}
+no_context = tt
+
 abbrev pub word : Machine → ℕ → ℕ
 word m register = value_in (state_of m) register
 

@@ -1,7 +1,6 @@
 // The memory that calls take in and give out.
-ghost use Rattle.std.specs.Prelude.{◌≡◌, IfOk, OnOk, length, option_map, IsTrue};
-ghost use Rattle.paged_memory.specs.PageMap.{bytes_from, readable};
-ghost use Rattle.call_parts.specs.Calls.{readable_bytes, giving};
+ghost use Rattle.std.specs.Prelude.{◌≡◌, IfOk, OnErr, option_map, length};
+ghost use Rattle.call_parts.specs.Calls.{readable_bytes, giving, no_context};
 
 use crate::results::{NONE, answer};
 use paged_memory::Memory;
@@ -68,7 +67,7 @@ pub fn give(
     from: u64,
     n: u64,
 ) -> Result<HostStep, AllocError>
-    ensures given { IfOk result (λ step. giving (option_map (λ bytes. bytes.now) value) address from n machine.old tt ≡ record { answer = step; machine = machine.new; context = tt }) }
+    ensures given { IfOk result (λ step. giving (option_map (λ bytes. bytes.now) value.entry) address from n machine.old no_context ≡ record { answer = step; machine = machine.new; context = no_context }) }
     ensures err { OnErr result (machine.new ≡ machine.old) }
 {
     let Some(value) = value else {

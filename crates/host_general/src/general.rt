@@ -1,5 +1,6 @@
 // Calls that change nothing but the machine.
 ghost use Rattle.std.specs.Prelude.{◌≡◌, IfOk};
+ghost use Rattle.call_parts.specs.Calls.{no_context};
 ghost use Rattle.host_general.specs.GeneralCalls.{gas_call, unknown_call, fetch_call, lookup_call, read_call, info_call};
 
 use crate::info::info_text;
@@ -12,7 +13,7 @@ use std::alloc::{AllocError, Global};
 
 /// 0, gas: how much is left after the call's cost.
 pub fn call_gas(machine: &mut Machine) -> HostStep
-    ensures row { gas_call machine.old ≡ record { answer = result; machine = machine.new; context = tt } }
+    ensures row { gas_call machine.old ≡ record { answer = result; machine = machine.new; context = no_context } }
 {
     if !charge(machine, CALL_CHARGE) {
         return HostStep::Unpaid;
@@ -23,7 +24,7 @@ pub fn call_gas(machine: &mut Machine) -> HostStep
 
 /// A number that no call has in this place.
 pub fn call_unknown(machine: &mut Machine) -> HostStep
-    ensures row { unknown_call machine.old ≡ record { answer = result; machine = machine.new; context = tt } }
+    ensures row { unknown_call machine.old ≡ record { answer = result; machine = machine.new; context = no_context } }
 {
     if !charge(machine, CALL_CHARGE) {
         return HostStep::Unpaid;
@@ -37,7 +38,7 @@ pub fn call_unknown(machine: &mut Machine) -> HostStep
 /// # Errors
 /// Want of memory.
 pub fn call_fetch(machine: &mut Machine, inputs: &Inputs) -> Result<HostStep, AllocError>
-    ensures row { IfOk result (λ step. fetch_call inputs.now machine.old ≡ record { answer = step; machine = machine.new; context = tt }) }
+    ensures row { IfOk result (λ step. fetch_call inputs.now machine.old ≡ record { answer = step; machine = machine.new; context = no_context }) }
 {
     if !charge(machine, CALL_CHARGE) {
         return Ok(HostStep::Unpaid);
@@ -52,7 +53,7 @@ pub fn call_fetch(machine: &mut Machine, inputs: &Inputs) -> Result<HostStep, Al
 /// # Errors
 /// Want of memory.
 pub fn call_lookup<S: Scope>(machine: &mut Machine, scope: &S) -> Result<HostStep, AllocError>
-    ensures row { IfOk result (λ step. lookup_call (S.pair scope.now) machine.old ≡ record { answer = step; machine = machine.new; context = tt }) }
+    ensures row { IfOk result (λ step. lookup_call (S.pair scope.now) machine.old ≡ record { answer = step; machine = machine.new; context = no_context }) }
 {
     if !charge(machine, CALL_CHARGE) {
         return Ok(HostStep::Unpaid);
@@ -74,7 +75,7 @@ pub fn call_read<S: Scope>(
     machine: &mut Machine,
     scope: &S,
 ) -> Result<HostStep, AllocError>
-    ensures row { IfOk result (λ step. read_call (S.pair scope.now) machine.old ≡ record { answer = step; machine = machine.new; context = tt }) }
+    ensures row { IfOk result (λ step. read_call (S.pair scope.now) machine.old ≡ record { answer = step; machine = machine.new; context = no_context }) }
 {
     if !charge(machine, CALL_CHARGE) {
         return Ok(HostStep::Unpaid);
@@ -96,7 +97,7 @@ pub fn call_info<S: Scope>(
     machine: &mut Machine,
     scope: &S,
 ) -> Result<HostStep, AllocError>
-    ensures row { IfOk result (λ step. info_call (S.pair scope.now) machine.old ≡ record { answer = step; machine = machine.new; context = tt }) }
+    ensures row { IfOk result (λ step. info_call (S.pair scope.now) machine.old ≡ record { answer = step; machine = machine.new; context = no_context }) }
 {
     if !charge(machine, CALL_CHARGE) {
         return Ok(HostStep::Unpaid);
