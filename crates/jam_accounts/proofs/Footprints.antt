@@ -1,5 +1,5 @@
 -- Footprints as the account of the program counts them; and accounts that still fit.
-use Rattle.std.proofs.Common.{Ordering, ◌≡◌, ℕ, ◌+◌, ◌*◌, ◌≤◌, ◌<◌, ◌^◌, List, ap, sym, ◌∙◌, subst, arith, Bool, true, false, Some, None, Option, option_map, is_some, unwrap_or}
+use Rattle.std.proofs.Common.{Ordering, ◌≡◌, ℕ, ◌+◌, ◌*◌, ◌≤◌, ◌<◌, ◌^◌, List, ap, sym, ◌∙◌, subst, arith, Bool, true, false, Some, None, Option, option_map, is_some, unwrap_or, refl}
 use Rattle.std.specs.Prelude.{T, nat_lt, if◌then◌else◌}
 use Rattle.std.specs.List.{sum_by}
 use Rattle.std.specs.FinMap as fin
