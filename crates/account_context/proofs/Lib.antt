@@ -1,0 +1,4 @@
+pub mod Differences
+pub mod HalfPairs
+pub mod OwnAccounts
+pub mod Restores

@@ -1,0 +1,9 @@
+//! Tests of contexts by their public calls.
+#![tactic(auto)]
+
+#[cfg(test)]
+mod copies;
+#[cfg(test)]
+mod new_ids;
+#[cfg(test)]
+mod seen;
