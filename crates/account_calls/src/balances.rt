@@ -1,20 +1,11 @@
 // What the own balance carries.
 ghost use Rattle.std.specs.Prelude.{◌≡◌, ◌<◌, ◌^◌};
-ghost use Rattle.account_context.specs.Context.{own_account, view_of};
+ghost use Rattle.account_context.specs.Context.{own_account};
 ghost use Rattle.account_calls.specs.AccountCalls.{can_spend};
 
-use account_context::{AccountView, Scope};
+use account_context::Scope;
+use host_general::own_view;
 use jam_accounts::threshold;
-
-/// The own account.
-pub fn own_view<S: Scope>(scope: &S) -> AccountView
-    ensures { result ≡ view_of (own_account (S.pair scope.now)) }
-{
-    match scope.view(scope.service()) {
-        Some(view) => view,
-        None => unreachable!(),
-    }
-}
 
 /// What is left of the own balance once an amount is spent, where it carries that beside the deposits.
 pub fn balance_after<S: Scope>(scope: &S, amount: u64) -> Option<u64>

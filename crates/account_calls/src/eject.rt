@@ -3,10 +3,10 @@ ghost use Rattle.std.specs.Prelude.{◌≡◌, ◌++◌, IfOk};
 ghost use Rattle.account_context.specs.Context.{account_in, view_of};
 ghost use Rattle.account_calls.specs.AccountCalls.{eject_call, may_eject, is_emptied, is_over, given_up_to};
 
-use crate::balances::own_view;
 use crate::found::{history_asked, service_there};
 use account_context::{AccountView, Scope};
 use call_parts::{CALL_CHARGE, HUH, OK, WHO, answer, charge, hash_in};
+use host_general::own_view;
 use preimage_store::{EXPUNGE_PERIOD, History};
 use pvm_step::{Exit, HostStep, Machine};
 use std::alloc::AllocError;

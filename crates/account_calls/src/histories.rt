@@ -1,16 +1,13 @@
 // The calls that ask for preimages.
-ghost use Rattle.std.specs.Prelude.{◌≡◌, false, Some, IfOk};
-ghost use Rattle.account_context.specs.Context.{own_account, set_history, IsOwnWithinBound};
-ghost use Rattle.host_general.specs.Deposits.{is_overdrawn};
+ghost use Rattle.std.specs.Prelude.{◌≡◌, IfOk};
 ghost use Rattle.call_parts.specs.Calls.{no_context};
 ghost use Rattle.account_calls.specs.AccountCalls.{query_call, solicit_call, forget_call, forgotten};
 
-use crate::balances::own_view;
 use crate::found::history_asked;
 use account_context::Scope;
 use call_parts::{CALL_CHARGE, FULL, HUH, NONE, OK, answer, charge, hash_in};
-use host_general::is_short_of;
-use preimage_store::{Forgot, History, forget, solicit};
+use host_general::history_overdraws;
+use preimage_store::{Forgot, forget, solicit};
 use pvm_step::{Exit, HostStep, Machine};
 use std::alloc::AllocError;
 
@@ -43,19 +40,6 @@ pub fn call_query<S: Scope>(
     Ok(step)
 }
 
-// Whether the own balance is too low once a history is kept.
-fn overdraws<S: Scope>(scope: &S, hash: &[u8; 32], length: u32, history: History) -> bool
-    ensures overdrawn { result ≡ is_overdrawn (own_account (set_history (S.pair scope.now) hash.now length (Some history))) }
-    ensures bound { result ≡ false → IsOwnWithinBound (set_history (S.pair scope.now) hash.now length (Some history)) }
-{
-    let own = own_view(scope);
-    let (items, octets) = (own.footprint.items(), own.footprint.octets());
-    match scope.history(scope.service(), hash, length) {
-        Some(_) => is_short_of(&own, items, octets),
-        None => is_short_of(&own, items + 2, octets + 81 + u128::from(length)),
-    }
-}
-
 /// 23, solicit: asks for the preimage of the hash at r7, of r8 bytes, once more or anew. HUH where r8 is 2^32 or more, or the history
 /// does not allow it; FULL where the own balance would be below the threshold.
 ///
@@ -82,7 +66,7 @@ pub fn call_solicit<S: Scope>(
     let Ok(history) = solicit(scope.history(scope.service(), &hash, length), slot) else {
         return Ok(answer(machine, HUH));
     };
-    if overdraws(scope, &hash, length, history) {
+    if history_overdraws(scope, &hash, length, history) {
         return Ok(answer(machine, FULL));
     }
     scope.set_history(&hash, length, Some(history))?;

@@ -1,64 +1,75 @@
-// What the own account would take up, and whether its balance carries that.
-ghost use Rattle.std.specs.Prelude.{◌≡◌, ◌<◌, ◌^◌, nat_lt, option_map};
-ghost use Rattle.std.specs.FinMap as fin;
-ghost use Rattle.jam_accounts.specs.Accounts.{Account};
+// The own account, and whether its balance carries what it would keep.
+ghost use Rattle.std.specs.Prelude.{◌≡◌, false, Some, nat_lt};
 ghost use Rattle.jam_accounts.specs.Footprint.{footprint_of, threshold_of};
-ghost use Rattle.account_context.specs.Context.{with_value, without_value};
+ghost use Rattle.account_context.specs.Context.{own_account, view_of, drop_value, put_value, set_history, IsOwnWithinBound};
+ghost use Rattle.host_general.specs.Deposits.{is_overdrawn};
 
-use account_context::AccountView;
-use jam_accounts::Footprint;
+use account_context::{AccountView, Scope, footprint_with_history, footprint_with_value};
+use jam_accounts::{Footprint, threshold};
+use preimage_store::History;
 
-/// Whether the balance of an account is below what it would need with so many items and octets.
-pub fn is_short_of(view: &AccountView, items: u128, octets: u128) -> bool
-    requires items { items < 2 ^ 101 }
-    requires octets { octets < 2 ^ 101 }
-    ensures { result ≡ nat_lt view.now.balance (threshold_of (record { items = items; octets = octets }) view.now.gratis) }
+/// The service's own account.
+pub fn own_view<S: Scope>(scope: &S) -> AccountView
+    ensures { result ≡ view_of (own_account (S.pair scope.now)) }
 {
-    let deposits = 100 + 10 * items + octets;
-    u128::from(view.balance) < deposits.saturating_sub(u128::from(view.gratis))
+    scope.view(scope.service()).unwrap()
 }
 
-// The octets of a value under a key.
-fn octets_of_value(key: &[u8], length: usize) -> u128
-    ensures { result ≡ 34 + length key.now + length }
+// Whether the balance of an account is below what it would need with this footprint.
+fn is_short_of(view: &AccountView, footprint: Footprint) -> bool
+    ensures { result ≡ nat_lt view.now.balance (threshold_of footprint view.now.gratis) }
 {
-    34 + key.len() as u128 + length as u128
+    u128::from(view.balance) < threshold(footprint, view.gratis)
 }
 
-/// The items and octets of an account once a value is put under a key where `old` stands.
-pub fn size_with_value(
-    footprint: Footprint,
-    key: &[u8],
-    value: &[u8],
-    old: Option<&[u8]>,
-) -> (u128, u128)
-    ensures size { (account : Account) → footprint ≡ footprint_of account → option_map (λ bytes. bytes.now) old ≡ fin.get account.storage key.now → footprint_of (with_value key.now value.now account) ≡ record { items = result.0; octets = result.1 } }
-    ensures items { result.0 < 2 ^ 101 }
-    ensures octets { result.1 < 2 ^ 101 }
+/// Whether the own balance would be below the threshold with a value under a key. Where it would not, the value may be kept.
+pub fn put_overdraws<S: Scope>(scope: &S, key: &[u8], value: &[u8]) -> bool
+    ensures overdrawn { result ≡ is_overdrawn (own_account (put_value (S.pair scope.now) key.now value.now)) }
+    ensures bound { result ≡ false → IsOwnWithinBound (put_value (S.pair scope.now) key.now value.now) }
 {
-    let octets = footprint.octets() + octets_of_value(key, value.len());
-    match old {
-        Some(old) => (
-            footprint.items(),
-            octets.saturating_sub(octets_of_value(key, old.len())),
-        ),
-        None => (footprint.items() + 1, octets),
+    let own = own_view(scope);
+    match footprint_with_value(scope, key, value) {
+        Some(footprint) => is_short_of(&own, footprint),
+        None => true,
     }
 }
 
-/// The same once the value under a key, which `old` is, is dropped.
-pub fn size_without_value(footprint: Footprint, key: &[u8], old: Option<&[u8]>) -> (u128, u128)
-    ensures size { (account : Account) → footprint ≡ footprint_of account → option_map (λ bytes. bytes.now) old ≡ fin.get account.storage key.now → footprint_of (without_value key.now account) ≡ record { items = result.0; octets = result.1 } }
-    ensures items { result.0 < 2 ^ 101 }
-    ensures octets { result.1 < 2 ^ 101 }
+// What the own account would take up without the value under a key.
+fn footprint_without_value<S: Scope>(scope: &S, key: &[u8]) -> Footprint
+    ensures { result ≡ footprint_of (own_account (drop_value (S.pair scope.now) key.now)) }
 {
-    match old {
-        Some(old) => (
-            footprint.items().saturating_sub(1),
-            footprint
-                .octets()
-                .saturating_sub(octets_of_value(key, old.len())),
+    let before = own_view(scope).footprint;
+    match scope.value(scope.service(), key) {
+        Some(value) => Footprint::new(
+            before.items() - 1,
+            before.octets() - (34 + key.len() as u128 + value.len() as u128),
         ),
-        None => (footprint.items(), footprint.octets()),
+        None => before,
+    }
+}
+
+/// Whether the own balance would be below the threshold without the value under a key.
+pub fn drop_overdraws<S: Scope>(scope: &S, key: &[u8]) -> bool
+    ensures { result ≡ is_overdrawn (own_account (drop_value (S.pair scope.now) key.now)) }
+{
+    let own = own_view(scope);
+    is_short_of(&own, footprint_without_value(scope, key))
+}
+
+/// Whether the own balance would be below the threshold with a history under a hash and a length. Where it would not, the history
+/// may be kept.
+pub fn history_overdraws<S: Scope>(
+    scope: &S,
+    hash: &[u8; 32],
+    length: u32,
+    history: History,
+) -> bool
+    ensures overdrawn { result ≡ is_overdrawn (own_account (set_history (S.pair scope.now) hash.now length (Some history))) }
+    ensures bound { result ≡ false → IsOwnWithinBound (set_history (S.pair scope.now) hash.now length (Some history)) }
+{
+    let own = own_view(scope);
+    match footprint_with_history(scope, hash, length, Some(history)) {
+        Some(footprint) => is_short_of(&own, footprint),
+        None => true,
     }
 }

@@ -8,7 +8,7 @@ mod inputs;
 mod named;
 mod write;
 
-pub use deposits::is_short_of;
+pub use deposits::{drop_overdraws, history_overdraws, own_view, put_overdraws};
 pub use general::{call_fetch, call_gas, call_info, call_lookup, call_read, call_unknown};
 pub use inputs::Inputs;
 pub use write::call_write;

@@ -5,7 +5,7 @@ ghost use Rattle.account_context.specs.Context.{own_account, IsOwnWithinBound, p
 ghost use Rattle.host_general.specs.Deposits.{is_overdrawn, length_or_none};
 ghost use Rattle.host_general.specs.GeneralCalls.{written, write_call};
 
-use crate::deposits::{is_short_of, size_with_value, size_without_value};
+use crate::deposits::{drop_overdraws, put_overdraws};
 use account_context::Scope;
 use call_parts::{CALL_CHARGE, FULL, NONE, answer, bytes_in, charge};
 use pvm_step::{Exit, HostStep, Machine};
@@ -14,19 +14,13 @@ use std::alloc::{AllocError, Global};
 // Whether the own balance is too low once the value is put under the key, or the key's is dropped.
 fn overdraws<S: Scope>(scope: &S, key: &[u8], value: &[u8], drops: bool) -> bool
     ensures overdrawn { result ≡ is_overdrawn (own_account (written (S.pair scope.now) key.now value.now drops)) }
-    ensures bound { result ≡ false → IsOwnWithinBound (written (S.pair scope.now) key.now value.now drops) }
+    ensures bound { result ≡ false → drops ≡ false → IsOwnWithinBound (put_value (S.pair scope.now) key.now value.now) }
 {
-    let service = scope.service();
-    let Some(view) = scope.view(service) else {
-        unreachable!()
-    };
-    let old = scope.value(service, key);
-    let (items, octets) = if drops {
-        size_without_value(view.footprint, key, old)
+    if drops {
+        drop_overdraws(scope, key)
     } else {
-        size_with_value(view.footprint, key, value, old)
-    };
-    is_short_of(&view, items, octets)
+        put_overdraws(scope, key, value)
+    }
 }
 
 // The length of the own value under a key, or the result that there is none.
