@@ -52,8 +52,11 @@ info_text view =
     ++ eight_bytes view.min_transfer ++ eight_bytes view.footprint.octets ++ eight_bytes view.footprint.items ++ eight_bytes view.gratis
     ++ little_endian 4 view.created
 
+abbrev pub view_named : Pair → ℕ → Option AccountView
+view_named pair service = option_map view_of (account_named pair service)
+
 abbrev pub info_call : Pair → Machine → CallOutcome (Unit {0})
-info_call pair m = paying call_charge m tt (λ m. giving (option_map (λ account. info_text (view_of account)) (account_named pair (word m 7))) (word m 8) (word m 9) (word m 10) m tt)
+info_call pair m = paying call_charge m tt (λ m. giving (option_map info_text (view_named pair (word m 7))) (word m 8) (word m 9) (word m 10) m tt)
 
 -- ---- 4: write
 

@@ -1,5 +1,6 @@
 -- What fetch gives (Gray Paper 0.7.0, appendix B; the five kinds and their bytes are this project's own).
-use Rattle.std.specs.Prelude.{ℕ, ◌==◌, List, ◌++◌, concat, length, slice_get, Option, Some, None, if◌then◌else◌, refl}
+use Rattle.std.specs.Prelude.{ℕ, ◌==◌, List, ◌++◌, length, slice_get, Option, Some, None, if◌then◌else◌, refl}
+use Rattle.std.specs.List.{concat}
 use Rattle.std.specs.Coded.{Coded, code_by, coded×, coded_ℕ, coded_list, coded_option}
 use Rattle.byte_numbers.specs.Numbers.{little_endian}
 use Rattle.jam_codec.specs.Spelling.{natural}

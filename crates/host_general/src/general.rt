@@ -3,11 +3,11 @@ ghost use Rattle.std.specs.Prelude.{◌≡◌, IfOk};
 ghost use Rattle.call_parts.specs.Calls.{no_context};
 ghost use Rattle.host_general.specs.GeneralCalls.{gas_call, unknown_call, fetch_call, lookup_call, read_call, info_call};
 
-use crate::info::info_text;
+use crate::info::info_named;
 use crate::inputs::Inputs;
-use crate::named::{preimage_named, value_named, view_named};
+use crate::named::{preimage_named, value_named};
 use account_context::Scope;
-use call_parts::{CALL_CHARGE, NONE, WHAT, answer, bytes_in, charge, give, hash_in};
+use call_parts::{CALL_CHARGE, WHAT, answer, bytes_in, charge, give, hash_in};
 use pvm_step::{Exit, HostStep, Machine};
 use std::alloc::{AllocError, Global};
 
@@ -103,9 +103,10 @@ pub fn call_info<S: Scope>(
         return Ok(HostStep::Unpaid);
     }
     let registers = machine.registers;
-    let Some(view) = view_named(scope, registers[7]) else {
-        return Ok(answer(machine, NONE));
+    let text = info_named(alloc, scope, registers[7])?;
+    let value = match &text {
+        Some(text) => Some(text.as_slice()),
+        None => None,
     };
-    let text = info_text(alloc, &view)?;
-    give(machine, Some(&text), registers[8], registers[9], registers[10])
+    give(machine, value, registers[8], registers[9], registers[10])
 }

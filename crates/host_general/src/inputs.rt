@@ -1,6 +1,5 @@
 // What a run is given.
-ghost use Rattle.std.specs.Prelude.{◌≡◌, IfOk, map, length, List, ℕ, ◌++◌, concat, option_map};
-ghost use Rattle.jam_codec.specs.Spelling.{natural};
+ghost use Rattle.std.specs.Prelude.{◌≡◌, IfOk, map, option_map};
 ghost use Rattle.host_general.specs.Inputs.{fetched, listed, constants};
 
 use std::alloc::{AllocError, Global};
@@ -8,7 +7,10 @@ use std::marker::Model;
 
 /// The numbers that services rely on, of eight bytes each: 100, 10 and 1 for an account, an item and
 /// an octet, 19,200, 4,104, 3,072, 128 and 4,000,000.
-const CONSTANTS: [u64; 8] = [100, 10, 1, 19_200, 4_104, 3_072, 128, 4_000_000];
+const CONSTANTS: [u8; 64] = [
+    100, 0, 0, 0, 0, 0, 0, 0, 10, 0, 0, 0, 0, 0, 0, 0, 1, 0, 0, 0, 0, 0, 0, 0, 0, 75, 0, 0, 0, 0, 0, 0,
+    8, 16, 0, 0, 0, 0, 0, 0, 0, 12, 0, 0, 0, 0, 0, 0, 128, 0, 0, 0, 0, 0, 0, 0, 0, 9, 61, 0, 0, 0, 0, 0,
+];
 
 /// What a run is given: the entropy, a payload or none, and pieces, which are imports, operands or
 /// transfers.
@@ -17,9 +19,9 @@ pub struct Inputs {
     entropy: [u8; 32],
     payload: Option<Vec<u8>>,
     pieces: Vec<Vec<u8>>,
-    // The pieces behind their count, and the constants, so that each value is there to be lent.
-    listed: Vec<u8>,
-    constants: [u8; 64],
+    // The pieces behind their count, and the numbers that services rely on, so that each value is there to be lent.
+    joined: Vec<u8>,
+    numbers: [u8; 64],
 }
 
 impl Model for Inputs {
@@ -32,7 +34,7 @@ impl Model for Inputs {
 
     ghost view = { λ i. record { entropy = i.entropy; payload = option_map (λ bytes. bytes.items) i.payload; pieces = map (λ piece. piece.items) i.pieces.items } };
 
-    ghost invariant = { λ i. (i.listed.items ≡ listed (map (λ piece. piece.items) i.pieces.items)) × (i.constants ≡ constants) };
+    ghost invariant = { λ i. (i.joined.items ≡ listed (map (λ piece. piece.items) i.pieces.items)) × (i.numbers ≡ constants) };
 }
 
 // The pieces behind their count.
@@ -41,7 +43,7 @@ fn list(alloc: Global, pieces: &[Vec<u8>]) -> Result<Vec<u8>, AllocError>
 {
     let mut bytes = Vec::new(alloc);
     jam_codec::push_natural(&mut bytes, pieces.len() as u64)?;
-    for piece in pieces {
+    'pieces: for piece in pieces {
         bytes.extend_from_slice(piece)?;
     }
     Ok(bytes)
@@ -50,11 +52,7 @@ fn list(alloc: Global, pieces: &[Vec<u8>]) -> Result<Vec<u8>, AllocError>
 fn constants() -> [u8; 64]
     ensures { result ≡ constants }
 {
-    let mut bytes = [0; 64];
-    for (place, number) in CONSTANTS.iter().enumerate() {
-        bytes[8 * place..8 * place + 8].copy_from_slice(&number.to_le_bytes());
-    }
-    bytes
+    CONSTANTS
 }
 
 impl Inputs {
@@ -70,13 +68,13 @@ impl Inputs {
     ) -> Result<Inputs, AllocError>
         ensures { IfOk result (λ inputs. inputs ≡ record { entropy = entropy; payload = option_map (λ bytes. bytes.items) payload; pieces = map (λ piece. piece.items) pieces.items }) }
     {
-        let listed = list(alloc, &pieces)?;
+        let joined = list(alloc, &pieces)?;
         Ok(Inputs {
             entropy,
             payload,
             pieces,
-            listed,
-            constants: constants(),
+            joined,
+            numbers: constants(),
         })
     }
 
@@ -86,7 +84,7 @@ impl Inputs {
         ensures { option_map (λ bytes. bytes.now) result ≡ fetched self.now kind index }
     {
         match kind {
-            0 => Some(&self.constants),
+            0 => Some(&self.numbers),
             1 => Some(&self.entropy),
             2 => match &self.payload {
                 Some(payload) => Some(payload.as_slice()),
@@ -96,7 +94,7 @@ impl Inputs {
                 Some(piece) => Some(piece.as_slice()),
                 None => None,
             },
-            4 => Some(&self.listed),
+            4 => Some(&self.joined),
             _ => None,
         }
     }
