@@ -1,5 +1,5 @@
 -- Accounts that there are in one of two maps alone: counted, listed and kept, entry by entry.
-use Rattle.std.proofs.Common.{◌≡◌, ◌≢◌, ℕ, suc, ◌+◌, ◌<◌, ◌≤◌, ◌^◌, Bool, true, false, cond, not, ◌&&◌, ◌||◌, List, [], ◌∷◌, ◌++◌, map, length, Option, Some, None, is_some, IsSome, refl, sym, ap, subst, ◌∙◌, arith, inl, inr, eq-eqb, nat_eq, append_assoc}
+use Rattle.std.proofs.Common.{◌≡◌, ◌≢◌, ℕ, suc, ◌+◌, ◌<◌, ◌≤◌, ◌^◌, Bool, true, false, cond, not, ◌&&◌, ◌||◌, List, [], ◌∷◌, ◌++◌, map, length, Option, Some, None, is_some, option_map, IsSome, Bor, refl, sym, ap, subst, ◌∙◌, arith, inl, inr, eq-eqb, nat_eq, ◌⊎◌, append_assoc, append-nil}
 use Rattle.std.specs.Prelude.{T}
 use Rattle.std.specs.List.{filter, list_any}
 use Rattle.std.proofs.lemmas.Bool.{cases_eq, ne_eqb}
@@ -70,6 +70,65 @@ module _ (absent : ℕ → Bool) where
   unfolding listed
   listed-one entries rest id account is = ap (λ es. filter absent (map (λ e. e.0) es)) is
 
+-- ---- entry by entry
+
+-- what was looked up is not there
+twice_not : (b : Bool) → not (not b) ≡ b
+twice_not true = refl
+twice_not false = refl
+
+seen_as : {A : Type 0} (o : Option (Bor A)) (found : Option A) → option_map (λ r. r.now) o ≡ found → is_some found ≡ is_some o
+seen_as None found is = ap is_some (sym is)
+seen_as (Some r) found is = ap is_some (sym is)
+
+pub missing_is : {A : Type 0} (o : Option (Bor A)) (found : Option A) (b : Bool) → option_map (λ r. r.now) o ≡ found → is_some o ≡ not b → not (is_some found) ≡ b
+missing_is o found b is answer = ap not (seen_as o found is ∙ answer) ∙ twice_not b
+
+module _ (keep : ℕ → Bool) (entries rest : List (ℕ × Account)) (id : ℕ) (account : Account) (steps : entries ≡ (id, account) ∷ rest) where
+  pub counted_more : (count total : ℕ) → keep id ≡ true → count + kept_count keep entries ≡ total → (count + 1) + kept_count keep rest ≡ total
+  counted_more count total here sum =
+      let one : kept_count keep entries ≡ suc (kept_count keep rest) = kept_count-one keep entries rest id account steps ∙ ap (λ b. cond b (suc (kept_count keep rest)) (kept_count keep rest)) here in
+      omega (arith, one, sum)
+
+  pub counted_past : (count total : ℕ) → keep id ≡ false → count + kept_count keep entries ≡ total → count + kept_count keep rest ≡ total
+  counted_past count total here sum =
+      let none : kept_count keep entries ≡ kept_count keep rest = kept_count-one keep entries rest id account steps ∙ ap (λ b. cond b (suc (kept_count keep rest)) (kept_count keep rest)) here in
+      omega (arith, none, sum)
+
+  length_rest : length entries ≡ suc (length rest)
+  length_rest = ap length steps
+
+  pub few_more : (count n : ℕ) → count + length entries ≤ n → (count + 1) + length rest ≤ n
+  few_more count n few = omega (arith, length_rest, few)
+
+  pub few_past : (count n : ℕ) → count + length entries ≤ n → count + length rest ≤ n
+  few_past count n few = omega (arith, length_rest, few)
+
+  pub listed_more : (before after total : List ℕ) → after ≡ before ++ id ∷ [] → keep id ≡ true → before ++ listed keep entries ≡ total → after ++ listed keep rest ≡ total
+  listed_more before after total pushed here all =
+      ap (λ ids. ids ++ listed keep rest) pushed ∙ append_assoc before (id ∷ []) (listed keep rest)
+      ∙ ap (λ ids. before ++ ids) (sym (listed-one keep entries rest id account steps ∙ ap (λ b. cond b (id ∷ listed keep rest) (listed keep rest)) here)) ∙ all
+
+  pub listed_past : (before total : List ℕ) → keep id ≡ false → before ++ listed keep entries ≡ total → before ++ listed keep rest ≡ total
+  listed_past before total here all =
+      ap (λ ids. before ++ ids) (sym (listed-one keep entries rest id account steps ∙ ap (λ b. cond b (id ∷ listed keep rest) (listed keep rest)) here)) ∙ all
+
+-- at the start, and at the end
+pub counted_none : (keep : ℕ → Bool) (left : List (ℕ × Account)) (m : Accounts) → left ≡ fin.entries m → 0 + kept_count keep left ≡ kept_count keep (fin.entries m)
+counted_none keep left m all = let same : kept_count keep left ≡ kept_count keep (fin.entries m) = ap (kept_count keep) all in omega (arith, same)
+
+pub few_none : (left : List (ℕ × Account)) (m : Accounts) → left ≡ fin.entries m → 0 + length left ≤ fin.len m
+few_none left m all = let same : length left ≡ fin.len m = ap length all ∙ sym (fin.len-entries m) in omega (arith, same)
+
+pub counted_all : (keep : ℕ → Bool) (left : List (ℕ × Account)) (m : Accounts) (count : ℕ) → left ≡ [] → count + kept_count keep left ≡ kept_count keep (fin.entries m) → count ≡ fin.len (fin.retain_keys m keep)
+counted_all keep left m count none sum =
+    let nothing : kept_count keep left ≡ 0 = kept_count-none keep left none in
+    let all : kept_count keep (fin.entries m) ≡ fin.len (fin.retain_keys m keep) = kept_count-all keep m in
+    omega (arith, nothing, sum, all)
+
+pub listed_all : (absent : ℕ → Bool) (left : List (ℕ × Account)) (m : Accounts) (ids : List ℕ) → left ≡ [] → ids ++ listed absent left ≡ listed absent (fin.entries m) → ids ≡ filter absent (fin.keys m)
+listed_all absent left m ids none all = sym (append-nil ids) ∙ ap (λ more. ids ++ more) (sym (listed-none absent left none)) ∙ all ∙ listed-all absent m
+
 -- ---- kept
 
 pub without_each : List (ℕ × Account) → Accounts → Accounts
@@ -83,6 +142,10 @@ without_each-none entries m none = ap (λ es. without_each es m) none
 pub without_each-one : (entries rest : List (ℕ × Account)) (id : ℕ) (account : Account) (m : Accounts) → entries ≡ (id, account) ∷ rest → without_each entries m ≡ without_each rest (fin.remove m id)
 unfolding without_each
 without_each-one entries rest id account m is = ap (λ es. without_each es m) is
+
+-- one removed more
+pub without_each-more : (entries rest : List (ℕ × Account)) (id : ℕ) (account : Account) (m after all : Accounts) → entries ≡ (id, account) ∷ rest → after ≡ fin.remove m id → without_each entries m ≡ all → without_each rest after ≡ all
+without_each-more entries rest id account m after all steps removed so_far = ap (without_each rest) removed ∙ sym (without_each-one entries rest id account m steps) ∙ so_far
 
 among : ℕ → List (ℕ × Account) → Bool
 among q es = list_any (eq_by_cmp nat_cmp q) (map (λ e. e.0) es)
@@ -116,17 +179,17 @@ without_each-all base m =
 
 -- what a removal of an account that is not kept leaves
 not_kept : (q id : ℕ) (keep : ℕ → Bool) → keep id ≡ false → (b : Bool) → is_eq (nat_cmp q id) ≡ b → (found : Option Account) → cond (keep q) (cond b None found) None ≡ cond (keep q) found None
-not_kept q id keep no true same found =
-    let here : keep q ≡ false = ap keep (nat_cmp-IsAntisymmetric q id (equal (nat_cmp q id) same)) ∙ no in
+not_kept q id keep out true same found =
+    let here : keep q ≡ false = ap keep (nat_cmp-IsAntisymmetric q id (equal (nat_cmp q id) same)) ∙ out in
     ap (λ b. cond b None None) here ∙ sym (ap (λ b. cond b found None) here)
-not_kept q id keep no false other found = refl
+not_kept q id keep out false other found = refl
 
 pub kept_without : (m : Accounts) (id : ℕ) (keep : ℕ → Bool) → keep id ≡ false → fin.retain_keys (fin.remove m id) keep ≡ fin.retain_keys m keep
-kept_without m id keep no =
+kept_without m id keep out =
     fin.same_map nat_cmp_total nat_cmp-IsAntisymmetric (fin.retain_keys (fin.remove m id) keep) (fin.retain_keys m keep) (λ q.
     fin.get-retain_keys (fin.remove m id) keep q (alike_keys keep q)
     ∙ ap (λ found. cond (keep q) found None) (fin.get-remove nat_cmp_total m id q)
-    ∙ not_kept q id keep no (eq_by_cmp nat_cmp q id) refl (fin.get m q)
+    ∙ not_kept q id keep out (eq_by_cmp nat_cmp q id) refl (fin.get m q)
     ∙ sym (fin.get-retain_keys m keep q (alike_keys keep q)))
 
 -- ---- the laws of a difference
@@ -156,11 +219,11 @@ module _ (test : ℕ → Bool) (id : ℕ) where
     where
       at : (b : Bool) → test id ≡ b → cond b true found ≡ test id
       at true here = sym here
-      at false here = is ∙ ap (λ x. rest && x) here ∙ no rest ∙ sym here
+      at false here = is ∙ ap (λ x. rest && x) here ∙ neither rest ∙ sym here
         where
-          no : (rest : Bool) → (rest && false) ≡ false
-          no true = refl
-          no false = refl
+          neither : (rest : Bool) → (rest && false) ≡ false
+          neither true = refl
+          neither false = refl
   passes_by k rest found is true t false same = is
   passes_by k rest found is false t false same = is
 

@@ -29,7 +29,7 @@ ring_places_differ id i j less within same = omega (arith, less, within, same)
 -- ---- the first number that is free
 
 true_not_false : {P : Type 0} (b : Bool) → b ≡ true → b ≡ false → P
-true_not_false b yes not_so = absurd (subst T (sym (sym not_so ∙ yes)) tt)
+true_not_false b so otherwise = absurd (subst T (sym (sym otherwise ∙ so)) tt)
 
 some_not_none : {A P : Type 0} (x : A) → Some x ≡ None → P
 some_not_none x same = absurd (subst T (ap is_some same) tt)
@@ -47,6 +47,16 @@ record Found (taken : ℕ → Bool) (candidate count places id : ℕ) : Type 0 w
 module _ (taken : ℕ → Bool) (candidate : ℕ) where
   here : ℕ → ℕ
   here places = ring_place candidate places
+
+  one_place : (count rest places : ℕ) (b : Bool) → count ≡ suc rest → taken (ring_place candidate places) ≡ b
+      → first_free taken candidate count places ≡ (if b then first_free taken candidate rest (places + 1) else Some (ring_place candidate places))
+  unfolding first_free
+  one_place count rest places b is there =
+      ap (λ n. first_free taken candidate n places) is ∙ ap (λ t. if t then first_free taken candidate rest (places + 1) else Some (ring_place candidate places)) there
+
+  no_place : (places : ℕ) → first_free taken candidate 0 places ≡ None
+  unfolding first_free
+  no_place places = refl
 
   found_later : (count places id : ℕ) → taken (ring_place candidate places) ≡ true → Found taken candidate count (places + 1) id → Found taken candidate (suc count) places id
   found_later count places id first rest =
@@ -105,6 +115,19 @@ module _ (taken : ℕ → Bool) (candidate : ℕ) where
   unfolding first_free
   all_taken zero places is k less = absurd (omega (arith, less))
   all_taken (suc count) places is k less = all_taken_by count places (all_taken count (places + 1)) (taken (ring_place candidate places)) refl is k less
+
+  -- one place further, from here on or past the end
+  pub first_free-more : (count places : ℕ) → places < count → taken (ring_place candidate places) ≡ true → first_free taken candidate (count - places) places ≡ first_free taken candidate (count - (places + 1)) (places + 1)
+  first_free-more count places within there = one_place (count - places) (count - (places + 1)) places true (omega (arith, within)) there
+
+  pub first_free-here : (count places : ℕ) → places < count → taken (ring_place candidate places) ≡ false → first_free taken candidate (count - places) places ≡ Some (ring_place candidate places)
+  first_free-here count places within free = one_place (count - places) (count - (places + 1)) places false (omega (arith, within)) free
+
+  pub first_free-past : (count places : ℕ) → count ≤ places → first_free taken candidate (count - places) places ≡ None
+  first_free-past count places past = let nothing : count - places ≡ 0 = omega (arith, past) in ap (λ n. first_free taken candidate n places) nothing ∙ no_place places
+
+  pub first_free-all : (count : ℕ) → first_free taken candidate (count - 0) 0 ≡ first_free taken candidate count 0
+  first_free-all count = let all : count - 0 ≡ count = omega arith in ap (λ n. first_free taken candidate n 0) all
 
 -- ---- different keys of two maps are no more than both have
 
@@ -206,3 +229,8 @@ none_by pair (inr many) none = many
 -- there is none only where too many are taken
 pub free_id-only_none : (pair : Pair) → free_id pair ≡ None → max_services ≤ taken_count pair
 free_id-only_none pair none = none_by pair (cases_lt (taken_count pair) max_services) none
+
+-- where few are taken, it is the first of the whole ring
+pub free_id-few : (pair : Pair) → taken_count pair < max_services → free_id pair ≡ first_free (is_taken pair) pair.now.candidate ring_size 0
+unfolding free_id
+free_id-few pair few = ap (λ b. if b then first_free (is_taken pair) pair.now.candidate ring_size 0 else None) (lt-ltb (taken_count pair) max_services few)

@@ -151,13 +151,7 @@ impl<'a> Scope for Copies<'a> {
 
     fn put_value(&mut self, key: &[u8], value: &[u8]) -> Result<(), AllocError> {
         part(self.alloc, &self.now, &mut self.saved)?;
-        own::put_value(
-            self.alloc,
-            &mut self.now.accounts,
-            self.service,
-            key,
-            value,
-        )
+        own::put_value(self.alloc, &mut self.now.accounts, self.service, key, value)
     }
 
     fn drop_value(&mut self, key: &[u8]) -> Result<(), AllocError> {

@@ -8,8 +8,8 @@ use preimage_store::History;
 
 // What a value takes up under a key, where there is one.
 fn of_value(key: &[u8], value: Option<&[u8]>) -> Footprint
-    ensures items { result.items ≡ unwrap_or (option_map (λ value. 1) value) 0 }
-    ensures octets { result.octets ≡ unwrap_or (option_map (λ value. 34 + length key.now + length value.now) value) 0 }
+    ensures items { result.items ≡ unwrap_or (option_map (λ v. 1) value.entry) 0 }
+    ensures octets { result.octets ≡ unwrap_or (option_map (λ v. 34 + length key.now + length v.now) value.entry) 0 }
 {
     match value {
         Some(value) => Footprint::new(1, 34 + key.len() as u128 + value.len() as u128),

@@ -1,6 +1,7 @@
 // Changes of one account among others. While it is changed a blank one stands in its place, which takes no memory: so it is put
 // back at every end.
-ghost use Rattle.std.specs.Prelude.{◌≡◌, ◌<◌, ◌^◌, IsSome, ForSome, OnOk, OnErr};
+ghost use Rattle.std.specs.Prelude.{◌≡◌, ◌<◌, ◌^◌, IsSome, OnOk, OnErr};
+ghost use Rattle.std.specs.Option.{ForSome};
 ghost use Rattle.std.specs.FinMap as fin;
 ghost use Rattle.jam_accounts.specs.Footprint.{octets_of};
 ghost use Rattle.account_context.specs.Context.{changed_account, with_value, without_value, with_history, without_preimage};
@@ -112,8 +113,9 @@ pub fn set_code(
     requires { IsSome (fin.get accounts.old id) }
     ensures { accounts.new ≡ changed_account (λ account. record account { code_hash = code_hash.now; min_accumulate = min_accumulate; min_transfer = min_transfer }) accounts.old id (fin.get accounts.old id) }
 {
+    let code_hash = *code_hash;
     let mut account = accounts.replace(id, Account::blank(alloc));
-    account.code_hash = *code_hash;
+    account.code_hash = code_hash;
     account.min_accumulate = min_accumulate;
     account.min_transfer = min_transfer;
     accounts.replace(id, account);

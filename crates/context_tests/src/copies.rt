@@ -185,7 +185,11 @@ fn delta_seen(delta: &Delta, id: u32) -> [u64; 8] {
         delta.added.get(2).map_or(NONE, |account| account.balance),
         delta.added.get(id).map_or(NONE, |account| account.balance),
         delta.removed.as_slice().len() as u64,
-        delta.removed.as_slice().first().map_or(NONE, |id| u64::from(*id)),
+        delta
+            .removed
+            .as_slice()
+            .first()
+            .map_or(NONE, |id| u64::from(*id)),
         delta.transfers.as_slice().len() as u64,
         delta.yielded.map_or(NONE, |hash| u64::from(hash[0])),
         delta.provided.as_slice().len() as u64,
@@ -210,9 +214,15 @@ fn a_number_is_free_that_no_service_has(rt: HostRuntime) -> Result<(), AllocErro
     let mut scope = copies_over(rt.alloc(), &state)?;
     assert!(rt; scope.free_id() == Some(CANDIDATE + 2));
     remove(&mut scope, CANDIDATE)?;
-    assert!(rt; scope.free_id() == Some(CANDIDATE + 2), "one that was there at the start");
+    assert!(rt;
+        scope.free_id() == Some(CANDIDATE + 2),
+        "one that was there at the start"
+    );
     let id = add(rt.alloc(), &mut scope, 1)?;
     assert!(rt; id == CANDIDATE + 2);
-    assert!(rt; scope.free_id() == Some(CANDIDATE + 45), "42 places on, and one more");
+    assert!(rt;
+        scope.free_id() == Some(CANDIDATE + 45),
+        "42 places on, and one more"
+    );
     Ok(())
 }

@@ -27,7 +27,10 @@ fn the_first_candidate_is_that_of_the_digest(rt: HostRuntime) {
         (u32::MAX, zeros, u32::MAX, 1_431_195_238),
     ];
     for (service, entropy, slot, want) in rows {
-        assert!(rt; first_candidate(service, &entropy, slot) == want, "of {service} at {slot}");
+        assert!(rt;
+            first_candidate(service, &entropy, slot) == want,
+            "of {service} at {slot}"
+        );
     }
 }
 

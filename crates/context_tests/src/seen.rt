@@ -9,25 +9,39 @@ pub const NONE: u64 = u64::MAX;
 
 // Places in what is shown of an account.
 pub const BALANCE: usize = 0;
+
 pub const CODE: usize = 1;
+
 pub const MIN_ACCUMULATE: usize = 2;
+
 pub const MIN_TRANSFER: usize = 3;
+
 pub const ITEMS: usize = 6;
+
 pub const OCTETS: usize = 7;
 
 // Places in what is shown of what an account keeps.
 pub const VALUE_K: usize = 0;
+
 pub const VALUE_L: usize = 1;
+
 pub const PREIMAGE: usize = 2;
+
 pub const HISTORY: usize = 3;
 
 // Places in what is shown of what was issued, with the number for the next new service.
 pub const TRANSFERS: usize = 0;
+
 pub const LAST_AMOUNT: usize = 1;
+
 pub const YIELD: usize = 2;
+
 pub const PROVIDED: usize = 3;
+
 pub const LAST_SERVICE: usize = 4;
+
 pub const LAST_LENGTH: usize = 5;
+
 pub const FREE: usize = 6;
 
 /// What is shown of service 1 and what it keeps, of service 2 and what it keeps, and of what was issued.
@@ -94,10 +108,7 @@ pub fn issued_seen<S: Scope>(scope: &S) -> [u64; 7] {
     let amount = scope.transfers().last().map_or(NONE, |t| t.amount);
     let yielded = scope.yielded().map_or(NONE, |hash| u64::from(hash[0]));
     let (service, length) = match scope.provided().last() {
-        Some(last) => (
-            u64::from(last.service),
-            last.bytes.as_slice().len() as u64,
-        ),
+        Some(last) => (u64::from(last.service), last.bytes.as_slice().len() as u64),
         None => (NONE, NONE),
     };
     [

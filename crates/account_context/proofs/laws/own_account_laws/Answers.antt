@@ -1,4 +1,4 @@
-use Rattle.std.proofs.Common.{◌≡◌, ◌+◌, ℕ, List, Some, None, ap, ◌∙◌}
+use Rattle.std.proofs.Common.{◌+◌, ℕ, List, Some, None, ap, ◌∙◌}
 use Rattle.jam_accounts.specs.Accounts.{Account}
 use Rattle.jam_accounts.specs.Footprint.{items_of, octets_of, value_octets, history_octets, weight_at}
 use Rattle.account_context.specs.Context.{own_account, with_value, without_value, with_history}
