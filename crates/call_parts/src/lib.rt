@@ -6,5 +6,5 @@ mod results;
 
 pub use memory::{bytes_in, give, hash_in};
 pub use results::{
-    CALL_CHARGE, answer, charge, service_named, CASH, FULL, HUH, LOW, NONE, OK, OOB, WHAT, WHO,
+    CALL_CHARGE, CASH, FULL, HUH, LOW, NONE, OK, OOB, WHAT, WHO, answer, charge, service_named,
 };

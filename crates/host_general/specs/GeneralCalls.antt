@@ -4,7 +4,6 @@ use Rattle.std.specs.Prelude.{ℕ, Bool, ◌^◌, ◌-◌, ◌==◌, min, List, 
 use Rattle.std.specs.Option.{option_map, option_and_then}
 use Rattle.std.specs.FinMap as fin
 use Rattle.byte_numbers.specs.Numbers.{little_endian}
-use Rattle.jam_accounts.specs.Accounts.{Account}
 use Rattle.jam_accounts.specs.Footprint.{threshold_of}
 use Rattle.account_context.specs.declared.account_view.AccountView.{AccountView}
 use Rattle.account_context.specs.Context.{Pair, view_of, own_account, put_value, drop_value}

@@ -1,7 +1,8 @@
 // The own account, and whether its balance carries what it would keep.
-ghost use Rattle.std.specs.Prelude.{◌≡◌, false, Some, nat_lt};
+ghost use Rattle.std.specs.Prelude.{◌≡◌, ◌<◌, ◌≤◌, ◌-◌, ◌^◌, false, Some, IsSome, nat_lt, length, option_map};
+ghost use Rattle.std.specs.FinMap as fin;
 ghost use Rattle.jam_accounts.specs.Footprint.{footprint_of, threshold_of};
-ghost use Rattle.account_context.specs.Context.{own_account, view_of, drop_value, put_value, set_history, IsOwnWithinBound};
+ghost use Rattle.account_context.specs.Context.{account_in, own_account, view_of, drop_value, put_value, set_history, IsOwnWithinBound};
 ghost use Rattle.host_general.specs.Deposits.{is_overdrawn};
 
 use account_context::{AccountView, Scope, footprint_with_history, footprint_with_value};
@@ -10,7 +11,10 @@ use preimage_store::History;
 
 /// The service's own account.
 pub fn own_view<S: Scope>(scope: &S) -> AccountView
-    ensures { result ≡ view_of (own_account (S.pair scope.now)) }
+    ensures account { result ≡ view_of (own_account (S.pair scope.now)) }
+    ensures there { IsSome (account_in (S.pair scope.now) (S.pair scope.now).service) }
+    ensures balance { result.balance < 2 ^ 64 }
+    ensures gratis { result.gratis < 2 ^ 64 }
 {
     scope.view(scope.service()).unwrap()
 }
@@ -34,16 +38,33 @@ pub fn put_overdraws<S: Scope>(scope: &S, key: &[u8], value: &[u8]) -> bool
     }
 }
 
+// The length of the own value under a key.
+pub(crate) fn own_value_length<S: Scope>(scope: &S, key: &[u8]) -> Option<u64>
+    ensures { result ≡ option_map length (fin.get (own_account (S.pair scope.now)).storage key.now) }
+{
+    match scope.value(scope.service(), key) {
+        Some(value) => Some(value.len() as u64),
+        None => None,
+    }
+}
+
+// A footprint without one value, of so many octets.
+fn without(before: Footprint, octets: u128) -> Footprint
+    requires items { 1 ≤ before.items }
+    requires octets { octets ≤ before.octets }
+    requires bounded { before.items - 1 ≤ before.octets - octets }
+    ensures { result ≡ record { items = before.items - 1; octets = before.octets - octets } }
+{
+    Footprint::new(before.items() - 1, before.octets() - octets)
+}
+
 // What the own account would take up without the value under a key.
 fn footprint_without_value<S: Scope>(scope: &S, key: &[u8]) -> Footprint
     ensures { result ≡ footprint_of (own_account (drop_value (S.pair scope.now) key.now)) }
 {
     let before = own_view(scope).footprint;
-    match scope.value(scope.service(), key) {
-        Some(value) => Footprint::new(
-            before.items() - 1,
-            before.octets() - (34 + key.len() as u128 + value.len() as u128),
-        ),
+    match own_value_length(scope, key) {
+        Some(length) => without(before, 34 + key.len() as u128 + u128::from(length)),
         None => before,
     }
 }

@@ -8,8 +8,9 @@ use std::marker::Model;
 /// The numbers that services rely on, of eight bytes each: 100, 10 and 1 for an account, an item and
 /// an octet, 19,200, 4,104, 3,072, 128 and 4,000,000.
 const CONSTANTS: [u8; 64] = [
-    100, 0, 0, 0, 0, 0, 0, 0, 10, 0, 0, 0, 0, 0, 0, 0, 1, 0, 0, 0, 0, 0, 0, 0, 0, 75, 0, 0, 0, 0, 0, 0,
-    8, 16, 0, 0, 0, 0, 0, 0, 0, 12, 0, 0, 0, 0, 0, 0, 128, 0, 0, 0, 0, 0, 0, 0, 0, 9, 61, 0, 0, 0, 0, 0,
+    100, 0, 0, 0, 0, 0, 0, 0, 10, 0, 0, 0, 0, 0, 0, 0, 1, 0, 0, 0, 0, 0, 0, 0, 0, 75, 0, 0, 0, 0,
+    0, 0, 8, 16, 0, 0, 0, 0, 0, 0, 0, 12, 0, 0, 0, 0, 0, 0, 128, 0, 0, 0, 0, 0, 0, 0, 0, 9, 61, 0,
+    0, 0, 0, 0,
 ];
 
 /// What a run is given: the entropy, a payload or none, and pieces, which are imports, operands or

@@ -5,7 +5,7 @@ ghost use Rattle.account_context.specs.Context.{own_account, IsOwnWithinBound, p
 ghost use Rattle.host_general.specs.Deposits.{is_overdrawn, length_or_none};
 ghost use Rattle.host_general.specs.GeneralCalls.{written, write_call};
 
-use crate::deposits::{drop_overdraws, put_overdraws};
+use crate::deposits::{drop_overdraws, own_value_length, put_overdraws};
 use account_context::Scope;
 use call_parts::{CALL_CHARGE, FULL, NONE, answer, bytes_in, charge};
 use pvm_step::{Exit, HostStep, Machine};
@@ -27,10 +27,7 @@ fn overdraws<S: Scope>(scope: &S, key: &[u8], value: &[u8], drops: bool) -> bool
 fn length_before<S: Scope>(scope: &S, key: &[u8]) -> u64
     ensures { result ≡ length_or_none (fin.get (own_account (S.pair scope.now)).storage key.now) }
 {
-    match scope.value(scope.service(), key) {
-        Some(value) => value.len() as u64,
-        None => NONE,
-    }
+    own_value_length(scope, key).unwrap_or(NONE)
 }
 
 /// 4, write: the value of r10 bytes at r9 is kept under the key of r8 bytes at r7; with r10 = 0 the key's value is dropped. The
