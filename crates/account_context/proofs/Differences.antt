@@ -1,6 +1,5 @@
 -- Accounts that there are in one of two maps alone: counted, listed and kept, entry by entry.
-use Rattle.std.proofs.Common.{◌≡◌, ◌≢◌, ℕ, suc, ◌+◌, ◌<◌, ◌≤◌, ◌^◌, Bool, true, false, cond, not, ◌&&◌, ◌||◌, List, [], ◌∷◌, ◌++◌, map, length, Option, Some, None, is_some, option_map, IsSome, Bor, refl, sym, ap, subst, ◌∙◌, arith, inl, inr, eq-eqb, nat_eq, ◌⊎◌, append_assoc, append-nil}
-use Rattle.std.specs.Prelude.{T}
+use Rattle.std.proofs.Common.{◌≡◌, ℕ, suc, ◌+◌, ◌≤◌, Bool, true, false, cond, not, ◌&&◌, ◌||◌, List, [], ◌∷◌, ◌++◌, map, length, Option, Some, None, is_some, option_map, Bor, refl, sym, ap, ◌∙◌, arith, inl, inr, eq-eqb, nat_eq, ◌⊎◌, append_assoc, append-nil}
 use Rattle.std.specs.List.{filter, list_any}
 use Rattle.std.proofs.lemmas.Bool.{cases_eq, ne_eqb}
 use Rattle.std.specs.Ordering.{nat_cmp, is_eq, eq_by_cmp}
@@ -11,7 +10,6 @@ use Rattle.std.specs.FinMap.{nat_cmp-IsAntisymmetric}
 use Rattle.std.specs.FinMap.Entries.{where_key, is_sorted-where_key, find-where_key}
 use Rattle.jam_accounts.specs.Accounts.{Account, Accounts}
 use Rattle.jam_accounts.specs.PutBackLaws.{equal}
-use Rattle.account_context.specs.ContextLaws.{get-taken-other}
 
 -- ---- counted
 

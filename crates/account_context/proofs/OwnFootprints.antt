@@ -4,7 +4,7 @@ use Rattle.std.specs.Prelude.{if◌then◌else◌}
 use Rattle.std.specs.Option.{option_and_then}
 use Rattle.std.specs.FinMap as fin
 use Rattle.jam_accounts.specs.Accounts.{Account}
-use Rattle.jam_accounts.specs.Footprint.{Footprint, footprint_of, items_of, octets_of, value_octets, history_octets, weight_at}
+use Rattle.jam_accounts.specs.Footprint.{Footprint, footprint_of, items_of, octets_of}
 use Rattle.jam_accounts.specs.FootprintLaws.{items_below}
 use Rattle.account_context.specs.declared.account_view.AccountView.{AccountView}
 use Rattle.account_context.specs.Context.{Pair, account_in, own_account, view_of, view_in, stored_value, history_in, with_value, with_history, put_value, set_history, IsLawful, fitting_footprint}

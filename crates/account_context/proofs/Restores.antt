@@ -1,5 +1,5 @@
 -- What changes of a context leave of what was saved, and of the accounts of other services.
-use Rattle.std.proofs.Common.{◌≡◌, ◌≢◌, ℕ, Bool, true, false, List, [], ◌∷◌, Option, Some, None, refl, sym, ap, subst, ◌∙◌, eq-eqb, nat_eq}
+use Rattle.std.proofs.Common.{◌≡◌, ◌≢◌, ℕ, false, List, [], ◌∷◌, refl, sym, subst, ◌∙◌, eq-eqb}
 use Rattle.std.specs.Prelude.{T, ◌==◌}
 use Rattle.account_context.specs.Context.{Pair, account_in, restore}
 use Rattle.account_context.specs.Changes.{ContextChange, puts_value, drops_value, sets_history, drops_preimage, sets_balance, sets_code, adds_account, removes_account, pushes_transfer, sets_yield, pushes_provided, after_change, after_changes, adds_or_removes}

@@ -1,5 +1,5 @@
 -- What changes of a context leave, and what they do to the service's own account.
-use Rattle.std.proofs.Common.{◌≡◌, ◌≢◌, ℕ, ◌+◌, Bool, true, false, cond, List, [], ◌∷◌, Option, Some, None, IsSome, is_some, unwrap_or, refl, sym, ap, subst, ◌∙◌, arith}
+use Rattle.std.proofs.Common.{◌≡◌, ◌≢◌, ℕ, ◌+◌, Bool, true, false, cond, List, Option, Some, None, IsSome, is_some, unwrap_or, refl, sym, ap, subst, ◌∙◌, arith}
 use Rattle.std.specs.Prelude.{T}
 use Rattle.std.specs.Ordering.{nat_cmp, is_eq, eq_by_cmp}
 use Rattle.std.specs.Cmp.{nat_cmp_total, tied_itself}
@@ -14,9 +14,8 @@ use Rattle.jam_accounts.specs.MapLaws.{bytes_same, lookups_same}
 use Rattle.jam_accounts.specs.PutBackLaws.{equal}
 use Rattle.jam_accounts.specs.SumLaws.{sum_by-insert, sum_by-remove}
 use Rattle.account_context.specs.declared.transfer.Transfer.{Transfer}
-use Rattle.account_context.specs.NewIds.{IsInRing, bump}
 use Rattle.account_context.specs.NewIdLaws.{ring_place-in}
-use Rattle.account_context.specs.Context.{Context, Pair, account_in, own_account, changed_account, change_own, with_accounts, with_value, without_value, with_history, add_account, remove_account, push_transfer, set_yield, push_provided, checkpoint, restore, HoldsService, IsLawful}
+use Rattle.account_context.specs.Context.{Pair, account_in, own_account, changed_account, change_own, with_value, without_value, with_history, add_account, remove_account, push_transfer, set_yield, push_provided, checkpoint, restore, IsLawful}
 
 -- ---- an account among others
 

@@ -1,5 +1,5 @@
 -- Numbers for new services: places along the ring, and the first that is free.
-use Rattle.std.proofs.Common.{◌≡◌, ◌≢◌, ℕ, zero, suc, ◌+◌, ◌-◌, ◌%◌, ◌^◌, ◌<◌, ◌≤◌, Bool, true, false, cond, not, ◌||◌, List, Option, Some, None, is_some, unwrap_or, refl, sym, ap, subst, ◌∙◌, arith, inl, inr, nat_lt, lt-ltb, le-ltb, zero-add, mod-lt, ◌⊎◌}
+use Rattle.std.proofs.Common.{◌≡◌, ◌≢◌, ℕ, zero, suc, ◌+◌, ◌-◌, ◌<◌, ◌≤◌, Bool, true, false, cond, not, ◌||◌, Option, Some, None, is_some, unwrap_or, refl, sym, ap, subst, ◌∙◌, arith, inl, inr, nat_lt, lt-ltb, le-ltb, zero-add, ◌⊎◌}
 use Rattle.std.specs.Prelude.{T, if◌then◌else◌}
 use Rattle.std.proofs.lemmas.Bool.{cases_lt}
 use Rattle.std.specs.Ordering.{nat_cmp, is_eq, eq_by_cmp}
@@ -7,7 +7,7 @@ use Rattle.std.specs.declared.cmp.Ordering.TheVariants.{Equal}
 use Rattle.std.specs.Cmp.{nat_cmp_total}
 use Rattle.std.specs.FinMap as fin
 use Rattle.std.specs.FinMap.{nat_cmp-IsAntisymmetric}
-use Rattle.jam_accounts.specs.Accounts.{Account, Accounts}
+use Rattle.jam_accounts.specs.Accounts.{Account}
 use Rattle.jam_accounts.specs.PutBackLaws.{equal}
 use Rattle.account_context.specs.NewIds.{IsInRing, ring_size, ring_place}
 use Rattle.account_context.specs.Context.{Pair}

@@ -1,5 +1,5 @@
-//! All that a scope shows of a small case, and its calls through the bound.
-use account_context::{Scope, Transfer, footprint_with_history, footprint_with_value};
+//! A small case, and all that a scope shows of it, through the bound.
+use account_context::{Scope, Transfer};
 use jam_accounts::{Account, Accounts, Lookups, Preimages, State, Storage, fits};
 use preimage_store::History;
 use std::alloc::{AllocError, Global};
@@ -180,38 +180,4 @@ pub fn state_of(alloc: Global, services: &[u32]) -> Result<State, AllocError> {
         accounts.put(*service, account_of(alloc, 1000)?)?;
     }
     Ok(State::new(7, [0; 32], accounts))
-}
-
-/// Keeps a value where it may.
-pub fn put<S: Scope>(scope: &mut S, key: &[u8], value: &[u8]) -> Result<(), AllocError> {
-    if footprint_with_value(scope, key, value).is_none() {
-        return Err(AllocError);
-    }
-    scope.put_value(key, value)
-}
-
-/// Keeps a history of "abc" where it may, or drops it.
-pub fn set<S: Scope>(scope: &mut S, history: Option<History>) -> Result<(), AllocError> {
-    if footprint_with_history(scope, &abc(), 3, history).is_none() {
-        return Err(AllocError);
-    }
-    scope.set_history(&abc(), 3, history)
-}
-
-/// Adds an account with a balance, and answers its number.
-pub fn add<S: Scope>(alloc: Global, scope: &mut S, balance: u64) -> Result<u32, AllocError> {
-    let Some(id) = scope.free_id() else {
-        return Err(AllocError);
-    };
-    let account = account_of(alloc, balance)?;
-    scope.add_account(id, account)?;
-    Ok(id)
-}
-
-/// Removes the account of another service, where it is there.
-pub fn remove<S: Scope>(scope: &mut S, id: u32) -> Result<(), AllocError> {
-    if scope.view(id).is_none() || id == scope.service() {
-        return Err(AllocError);
-    }
-    scope.remove_account(id)
 }

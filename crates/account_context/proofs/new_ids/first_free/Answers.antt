@@ -1,4 +1,4 @@
-use Rattle.std.proofs.Common.{◌≡◌, ◌||◌, Bool, true, false, not, ℕ, sym, ap, ◌∙◌, Some}
+use Rattle.std.proofs.Common.{◌≡◌, ◌||◌, Bool, true, false, ℕ, sym, ap, ◌∙◌, Some}
 use Rattle.std.specs.FinMap as fin
 use Rattle.account_context.specs.NewIdLaws.{first_free-more, first_free-here, first_free-past}
 use Rattle.account_context.proofs.new_ids.first_free.Goals as goal

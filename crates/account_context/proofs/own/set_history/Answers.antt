@@ -1,5 +1,3 @@
-use Rattle.std.proofs.Common.{◌≡◌, ◌∙◌}
-use Rattle.std.specs.FinMap as fin
 use Rattle.std.proofs.lemmas.Result.{on_ok_weaker, on_err_weaker}
 use Rattle.account_context.specs.Context.{with_history}
 use Rattle.account_context.proofs.OwnAccounts.{put_changed, put_unchanged, held_place}
