@@ -4,7 +4,7 @@
 use Rattle.std.specs.Prelude.{ℕ, Bool, true, false, ◌+◌, ◌-◌, ◌^◌, ◌==◌, ◌&&◌, ◌||◌, not, nat_lt, nat_le, min, List, [], ◌∷◌, ◌++◌, length, replicate, Option, Some, None, Result, Ok, Err, if◌then◌else◌}
 use Rattle.std.specs.Option.{option_map, option_and_then}
 use Rattle.std.specs.List.{list_any}
-use Rattle.std.specs.Ordering.{is_eq}
+use Rattle.std.specs.Str.{bytes_eq}
 use Rattle.std.specs.FinMap as fin
 use Rattle.byte_numbers.specs.Numbers.{little_endian}
 use Rattle.blake2b_core.specs.Blake2b.{digest}
@@ -12,7 +12,7 @@ use Rattle.preimage_store.specs.History.{solicit, forget, is_expunged, query_wor
 use Rattle.preimage_store.specs.declared.history.Huh.{Huh}
 use Rattle.preimage_store.specs.declared.history.Forgot.{Forgot}
 use Rattle.preimage_store.specs.declared.history.Forgot.TheVariants.{Dropped, Kept}
-use Rattle.jam_accounts.specs.Accounts.{Account, bytes_cmp}
+use Rattle.jam_accounts.specs.Accounts.{Account}
 use Rattle.jam_accounts.specs.Footprint.{items_of, octets_of}
 use Rattle.account_context.specs.declared.provided.Provided.{Provided}
 use Rattle.account_context.specs.Context.{Pair, account_in, own_account, history_in, set_balance, set_code, set_history, drop_preimage, add_account, remove_account, push_transfer, push_provided, set_yield, checkpoint}
@@ -35,6 +35,7 @@ can_spend account amount = nat_le (deposit account + amount) account.balance
 -- the history of a hash with a length, of a service: none from 2 ^ 32 on
 abbrev pub history_asked : Pair → ℕ → List ℕ → ℕ → Option (List ℕ)
 history_asked pair service hash length = if nat_lt length (2 ^ 32) then history_in pair service hash length else None
+
 
 -- ---- 17: checkpoint
 
@@ -104,7 +105,7 @@ abbrev pub given_up_to : ℕ → List ℕ
 given_up_to service = little_endian 4 service ++ replicate 28 0
 
 abbrev pub may_eject : Pair → ℕ → Account → Bool
-may_eject pair id account = not (id == pair.service) && is_eq (bytes_cmp account.code_hash (given_up_to pair.service))
+may_eject pair id account = not (id == pair.service) && bytes_eq account.code_hash (given_up_to pair.service)
 
 -- it was asked for, given and forgotten, and the period is over
 abbrev pub is_over : ℕ → Option (List ℕ) → Bool
@@ -188,7 +189,7 @@ yield_call pair m = paying call_charge m pair (λ m. taking (word m 7) 32 m pair
 -- ---- 26: provide
 
 abbrev pub is_provided : List Provided → ℕ → List ℕ → Bool
-is_provided provided service bytes = list_any (λ (p : Provided). (p.service == service) && is_eq (bytes_cmp p.bytes bytes)) provided
+is_provided provided service bytes = list_any (λ (p : Provided). (p.service == service) && bytes_eq p.bytes bytes) provided
 
 -- it was asked for and never given
 abbrev pub is_awaited : Option (List ℕ) → Bool

@@ -1,5 +1,5 @@
 // What the own balance carries.
-ghost use Rattle.std.specs.Prelude.{◌≡◌, ◌<◌, ◌^◌};
+ghost use Rattle.std.specs.Prelude.{◌≡◌, ◌-◌, Some, None, if◌then◌else◌};
 ghost use Rattle.account_context.specs.Context.{own_account};
 ghost use Rattle.account_calls.specs.AccountCalls.{can_spend};
 

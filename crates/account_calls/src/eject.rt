@@ -1,5 +1,6 @@
 // The call that removes a service.
-ghost use Rattle.std.specs.Prelude.{◌≡◌, ◌++◌, IfOk};
+ghost use Rattle.std.specs.Prelude.{◌≡◌, Some, IfOk};
+ghost use Rattle.jam_accounts.specs.Accounts.{Account};
 ghost use Rattle.account_context.specs.Context.{account_in, view_of};
 ghost use Rattle.account_calls.specs.AccountCalls.{eject_call, may_eject, is_emptied, is_over, given_up_to};
 
@@ -43,7 +44,7 @@ fn is_emptied<S: Scope>(
     account: &AccountView,
     hash: &[u8; 32],
 ) -> bool
-    ensures { (there : Rattle.jam_accounts.specs.Accounts.Account) → account_in (S.pair scope.now) id ≡ Some there → account.now ≡ view_of there → result ≡ is_emptied slot (S.pair scope.now) id there hash.now }
+    ensures { (there : Account) → account_in (S.pair scope.now) id ≡ Some there → account.now ≡ view_of there → result ≡ is_emptied slot (S.pair scope.now) id there hash.now }
 {
     let octets = account.footprint.octets();
     if account.footprint.items() != 2 || octets < 81 {

@@ -1,12 +1,13 @@
 // The calls that ask for preimages.
-ghost use Rattle.std.specs.Prelude.{◌≡◌, IfOk};
+ghost use Rattle.std.specs.Prelude.{◌≡◌, IfOk, IsSome, OnOk};
+ghost use Rattle.account_context.specs.Context.{history_in};
 ghost use Rattle.call_parts.specs.Calls.{no_context};
 ghost use Rattle.account_calls.specs.AccountCalls.{query_call, solicit_call, forget_call, forgotten};
 
 use crate::found::history_asked;
 use account_context::Scope;
 use call_parts::{CALL_CHARGE, FULL, HUH, NONE, OK, answer, charge, hash_in};
-use host_general::history_overdraws;
+use host_general::{history_overdraws, own_view};
 use preimage_store::{Forgot, forget, solicit};
 use pvm_step::{Exit, HostStep, Machine};
 use std::alloc::AllocError;
@@ -73,15 +74,18 @@ pub fn call_solicit<S: Scope>(
     Ok(answer(machine, OK))
 }
 
-// Leaves what is left of a history that was asked for.
+// Leaves what is left of a history that is there.
 fn forget_so<S: Scope>(
     scope: &mut S,
     hash: &[u8; 32],
     length: u32,
     left: Forgot,
 ) -> Result<(), AllocError>
-    ensures { IfOk result (λ _. S.pair scope.new ≡ forgotten (S.pair scope.old) hash.now length left) }
+    requires there { IsSome (history_in (S.pair scope.old) (S.pair scope.old).service hash.now length) }
+    ensures { OnOk result (S.pair scope.new ≡ forgotten (S.pair scope.old) hash.now length left) }
 {
+    // The own octets are below the bound of every account, and do not rise.
+    let _own = own_view(scope);
     match left {
         Forgot::Dropped => {
             scope.set_history(hash, length, None)?;

@@ -16,14 +16,13 @@ fn charge_with(machine: &mut Machine, gas: u64) -> bool
     ensures paid { result ≡ nat_le (10 + gas) machine.old.gas }
     ensures left { machine.new ≡ record machine.old { gas = if result then machine.old.gas - (10 + gas) else 0 } }
 {
-    match CALL_CHARGE.checked_add(gas) {
-        Some(cost) => charge(machine, cost),
-        // More than there can be.
-        None => {
-            machine.ledger.exhaust();
-            false
-        }
+    // It may be more than a number of 64 bits.
+    let cost = u128::from(CALL_CHARGE) + u128::from(gas);
+    if cost <= u128::from(machine.ledger.left()) {
+        return charge(machine, cost as u64);
     }
+    machine.ledger.exhaust();
+    false
 }
 
 // The 128 bytes at an address; none where they may not all be read.

@@ -1,7 +1,7 @@
 // The own account, and whether its balance carries what it would keep.
 ghost use Rattle.std.specs.Prelude.{◌≡◌, ◌<◌, ◌≤◌, ◌-◌, ◌^◌, false, Some, IsSome, nat_lt, length, option_map};
 ghost use Rattle.std.specs.FinMap as fin;
-ghost use Rattle.jam_accounts.specs.Footprint.{footprint_of, threshold_of};
+ghost use Rattle.jam_accounts.specs.Footprint.{footprint_of, octets_of, threshold_of};
 ghost use Rattle.account_context.specs.Context.{account_in, own_account, view_of, drop_value, put_value, set_history, IsOwnWithinBound};
 ghost use Rattle.host_general.specs.Deposits.{is_overdrawn};
 
@@ -15,8 +15,12 @@ pub fn own_view<S: Scope>(scope: &S) -> AccountView
     ensures there { IsSome (account_in (S.pair scope.now) (S.pair scope.now).service) }
     ensures balance { result.balance < 2 ^ 64 }
     ensures gratis { result.gratis < 2 ^ 64 }
+    ensures bounded { octets_of (own_account (S.pair scope.now)) < 2 ^ 100 }
 {
-    scope.view(scope.service()).unwrap()
+    let view = scope.view(scope.service()).unwrap();
+    // What it says of every footprint is what is wanted of it.
+    let _octets = view.footprint.octets();
+    view
 }
 
 // Whether the balance of an account is below what it would need with this footprint.

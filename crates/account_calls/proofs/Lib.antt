@@ -1,0 +1,2 @@
+pub mod OwnHistories
+pub mod NewAccounts
