@@ -7,8 +7,8 @@ use Rattle.jam_accounts.specs.Accounts.{Account}
 use Rattle.jam_accounts.specs.Footprint.{Footprint, footprint_of, items_of, octets_of}
 use Rattle.jam_accounts.specs.FootprintLaws.{items_below}
 use Rattle.account_context.specs.declared.account_view.AccountView.{AccountView}
-use Rattle.account_context.specs.Context.{Pair, account_in, own_account, view_of, view_in, stored_value, history_in, with_value, with_history, put_value, set_history, IsLawful, fitting_footprint}
-use Rattle.account_context.specs.ContextLaws.{account_there, own_account-changed, octets-with_value, items-with_value, octets-with_history, items-with_history, octets-without_history, items-without_history}
+use Rattle.account_context.specs.Context.{Pair, account_in, own_account, view_of, view_in, stored_value, history_in, with_value, without_value, with_history, put_value, drop_value, set_history, IsLawful, fitting_footprint}
+use Rattle.account_context.specs.ContextLaws.{account_there, own_account-changed, octets-with_value, items-with_value, octets-without_value, items-without_value, octets-with_history, items-with_history, octets-without_history, items-without_history}
 
 -- what an account takes up follows from what was taken up before, what is gone, and what is there more
 pub record Follows (account : Account) (before gone more : Footprint) : Type 0 where
@@ -33,6 +33,30 @@ module _ (account : Account) (before gone more : Footprint) (follows : Follows a
 
   pub fits_as : (if nat_lt (before.octets + more.octets - gone.octets) (2 ^ 100) then Some (record { items = before.items + more.items - gone.items; octets = before.octets + more.octets - gone.octets }) else None) ≡ fitting_footprint account
   fits_as = λ i. if nat_lt (octets_are i) (2 ^ 100) then Some (record { items = items_are i; octets = octets_are i }) else None
+
+-- the same where nothing is there more
+pub record Lessens (account : Account) (before gone : Footprint) : Type 0 where
+  pub items : items_of account + gone.items ≡ before.items
+  pub octets : octets_of account + gone.octets ≡ before.octets
+
+module _ (account : Account) (before gone : Footprint) (lessens : Lessens account before gone) where
+  pub items_there : gone.items ≤ before.items
+  items_there = omega (arith, lessens.items)
+
+  pub octets_there : gone.octets ≤ before.octets
+  octets_there = omega (arith, lessens.octets)
+
+  items_left : before.items - gone.items ≡ items_of account
+  items_left = omega (arith, lessens.items)
+
+  octets_left : before.octets - gone.octets ≡ octets_of account
+  octets_left = omega (arith, lessens.octets)
+
+  pub left_within : before.items - gone.items ≤ before.octets - gone.octets
+  left_within = omega (arith, items_left, octets_left, items_below account)
+
+  pub left_as : record { items = before.items - gone.items; octets = before.octets - gone.octets } ≡ footprint_of account
+  left_as = λ i. record { items = items_left i; octets = octets_left i }
 
 same_some : {A : Type 0} (x y : A) → Some x ≡ Some y → x ≡ y
 same_some x y same = ap (λ o. unwrap_or o x) same
@@ -63,6 +87,9 @@ weighed_behind weight (Some v) found is = ap (λ o. unwrap_or (option_map weight
 
 four : (a a' b b' c c' d d' : ℕ) → a ≡ a' → b ≡ b' → c ≡ c' → d ≡ d' → a' + b' ≡ c' + d' → a + b ≡ c + d
 four a a' b b' c c' d d' p q r s h = omega (arith, p, q, r, s, h)
+
+three : (a a' b b' c c' : ℕ) → a ≡ a' → b ≡ b' → c ≡ c' → a' + b' ≡ c' → a + b ≡ c
+three a a' b b' c c' p q r h = omega (arith, p, q, r, h)
 
 module _ (pair : Pair) (lawful : IsLawful pair) (service : ℕ) (is : service ≡ pair.service) (view : AccountView) (seen : view_in pair service ≡ Some view) where
   items_before : view.footprint.items ≡ items_of (own_account pair)
@@ -105,4 +132,16 @@ module _ (pair : Pair) (lawful : IsLawful pair) (service : ℕ) (is : service �
       record {
         items = four _ _ _ _ _ _ _ _ (ap items_of after) (gone_items ∙ ap (λ o. unwrap_or (option_map (λ h. 2) o) 0) there) items_before more_items (items-with_history own hash n history);
         octets = four _ _ _ _ _ _ _ _ (ap octets_of after) (gone_octets ∙ ap (λ o. unwrap_or (option_map (λ h. 81 + n) o) 0) there) octets_before more_octets (octets-with_history own hash n history);
+      }
+
+  pub dropped_follows : (key : List ℕ) (old : Option (Bor (List ℕ))) (gone : Footprint) → option_map (λ v. v.now) old ≡ stored_value pair service key
+      → gone.items ≡ unwrap_or (option_map (λ v. 1) old) 0 → gone.octets ≡ unwrap_or (option_map (λ v. 34 + length key + length v.now) old) 0
+      → Lessens (own_account (drop_value pair key)) view.footprint gone
+  dropped_follows key old gone found gone_items gone_octets =
+      let own : Account = own_account pair in
+      let after : own_account (drop_value pair key) ≡ without_value key own = own_account-changed (without_value key) pair lawful.now.own in
+      let there : option_map (λ v. v.now) old ≡ fin.get own.storage key = found ∙ value_is pair lawful service is key in
+      record {
+        items = three _ _ _ _ _ _ (ap items_of after) (gone_items ∙ weighed_behind (λ v. 1) old (fin.get own.storage key) there) items_before (items-without_value own key);
+        octets = three _ _ _ _ _ _ (ap octets_of after) (gone_octets ∙ weighed_behind (λ v. 34 + length key + length v) old (fin.get own.storage key) there) octets_before (octets-without_value own key);
       }

@@ -1,6 +1,7 @@
 -- What changes of a context leave, and what they do to the service's own account.
-use Rattle.std.proofs.Common.{◌≡◌, ◌≢◌, ℕ, ◌+◌, Bool, true, false, cond, List, Option, Some, None, IsSome, is_some, unwrap_or, refl, sym, ap, subst, ◌∙◌, arith}
+use Rattle.std.proofs.Common.{◌≡◌, ◌≢◌, ℕ, ◌+◌, Bool, true, false, cond, List, Option, Some, None, IsSome, is_some, unwrap_or, refl, sym, ap, subst, ◌∙◌, arith, ◌<◌, ◌^◌, option_map}
 use Rattle.std.specs.Prelude.{T}
+use Rattle.std.specs.Option.{option_and_then}
 use Rattle.std.specs.Ordering.{nat_cmp, is_eq, eq_by_cmp}
 use Rattle.std.specs.Cmp.{nat_cmp_total, tied_itself}
 use Rattle.std.specs.Cmp.Lexicographic.{nat_list_cmp_total}
@@ -15,7 +16,7 @@ use Rattle.jam_accounts.specs.PutBackLaws.{equal}
 use Rattle.jam_accounts.specs.SumLaws.{sum_by-insert, sum_by-remove}
 use Rattle.account_context.specs.declared.transfer.Transfer.{Transfer}
 use Rattle.account_context.specs.NewIdLaws.{ring_place-in}
-use Rattle.account_context.specs.Context.{Pair, account_in, own_account, changed_account, change_own, with_value, without_value, with_history, add_account, remove_account, push_transfer, set_yield, push_provided, checkpoint, restore, IsLawful}
+use Rattle.account_context.specs.Context.{Pair, account_in, history_in, own_account, set_history, IsOwnWithinBound, changed_account, change_own, with_value, without_value, with_history, add_account, remove_account, push_transfer, set_yield, push_provided, checkpoint, restore, IsLawful}
 
 -- ---- an account among others
 
@@ -112,6 +113,36 @@ module _ (account : Account) where
 
   pub items-without_history : (hash : List ℕ) (length : ℕ) → items_of (with_history hash length None account) + weight_at (λ entry. 2) account.lookups (hash, length) ≡ items_of account
   items-without_history hash length = less_histories _ _ _ _ (sum_by-remove hash_and_number_total lookups_same (λ (entry : (List ℕ × ℕ) × List ℕ). 2) account.lookups (hash, length))
+
+-- ---- what stays within the bound
+
+weighs : (found : Option (List ℕ)) (history : List ℕ) (n : ℕ) → found ≡ Some history → unwrap_or (option_map (λ (value : List ℕ). n) found) 0 ≡ n
+weighs None history n is = absurd (subst T (sym (ap is_some is)) tt)
+weighs (Some other) history n is = refl
+
+no_more : (after before weight more : ℕ) → after + weight ≡ before + more → weight ≡ more → before < 2 ^ 100 → after < 2 ^ 100
+no_more after before weight more sum same within = omega (arith, sum, same, within)
+
+less_than : (after before weight : ℕ) → after + weight ≡ before → before < 2 ^ 100 → after < 2 ^ 100
+less_than after before weight sum within = omega (arith, sum, within)
+
+module _ (pair : Pair) (there : IsSome (account_in pair pair.service)) (within : octets_of (own_account pair) < 2 ^ 100) (hash : List ℕ) (length : ℕ) where
+  -- a history in place of another takes up as much
+  pub within_replaced : (old history : List ℕ) → history_in pair pair.service hash length ≡ Some old → IsOwnWithinBound (set_history pair hash length (Some history))
+  within_replaced old history found =
+      let own : Account = own_account pair in
+      let here : fin.get own.lookups (hash, length) ≡ Some old =
+      sym (ap (option_and_then (λ (account : Account). fin.get account.lookups (hash, length))) (account_there (account_in pair pair.service) there)) ∙ found in
+      subst (λ (account : Account). octets_of account < 2 ^ 100) (sym (own_account-changed (with_history hash length (Some history)) pair there))
+      (no_more (octets_of (with_history hash length (Some history) own)) (octets_of own) (weight_at history_octets own.lookups (hash, length)) (history_octets ((hash, length), history))
+      (octets-with_history own hash length history) (weighs (fin.get own.lookups (hash, length)) old (81 + length) here) within)
+
+  -- and none takes up no more
+  pub within_dropped : IsOwnWithinBound (set_history pair hash length None)
+  within_dropped =
+      let own : Account = own_account pair in
+      subst (λ (account : Account). octets_of account < 2 ^ 100) (sym (own_account-changed (with_history hash length None) pair there))
+      (less_than (octets_of (with_history hash length None own)) (octets_of own) (weight_at history_octets own.lookups (hash, length)) (octets-without_history own hash length) within)
 
 -- ---- a lawful pair stays lawful
 

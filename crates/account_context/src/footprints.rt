@@ -1,5 +1,6 @@
 // What the service's own account would take up after a change of it.
 ghost use Rattle.std.specs.Prelude.{◌≡◌, ◌+◌, ◌-◌, ◌≤◌, ◌^◌, ◌<◌, Some, None, nat_lt, length, option_map, unwrap_or, if◌then◌else◌};
+ghost use Rattle.jam_accounts.specs.Footprint.{footprint_of};
 ghost use Rattle.account_context.specs.Context.{own_account, put_value, drop_value, set_history, fitting_footprint};
 
 use crate::scope::Scope;
@@ -44,6 +45,18 @@ fn changed(before: Footprint, gone: Footprint, more: Footprint) -> Option<Footpr
     }
 }
 
+// What is taken up once some of it goes.
+fn less(before: Footprint, gone: Footprint) -> Footprint
+    requires items { gone.items ≤ before.items }
+    requires octets { gone.octets ≤ before.octets }
+    requires below { before.items - gone.items ≤ before.octets - gone.octets }
+    ensures { result ≡ record { items = before.items - gone.items; octets = before.octets - gone.octets } }
+{
+    let items = before.items() - gone.items();
+    let octets = before.octets() - gone.octets();
+    Footprint::new(items, octets)
+}
+
 /// What the service's own account would take up once it keeps a value under a key. None where the
 /// octets would not be below the bound of every account: then it may not keep it.
 pub fn footprint_with_value<S: Scope>(scope: &S, key: &[u8], value: &[u8]) -> Option<Footprint>
@@ -53,6 +66,16 @@ pub fn footprint_with_value<S: Scope>(scope: &S, key: &[u8], value: &[u8]) -> Op
     let before = scope.view(service).unwrap().footprint;
     let gone = of_value(key, scope.value(service, key));
     changed(before, gone, of_value(key, Some(value)))
+}
+
+/// What the service's own account would take up once the value under a key is dropped.
+pub fn footprint_without_value<S: Scope>(scope: &S, key: &[u8]) -> Footprint
+    ensures { result ≡ footprint_of (own_account (drop_value (S.pair scope.now) key.now)) }
+{
+    let service = scope.service();
+    let before = scope.view(service).unwrap().footprint;
+    let gone = of_value(key, scope.value(service, key));
+    less(before, gone)
 }
 
 /// What the service's own account would take up once it keeps this history, or none, under a hash

@@ -21,7 +21,7 @@ mod transfers;
 pub use account_view::AccountView;
 pub use copies::{Copies, MAX_SERVICES};
 pub use delta::Delta;
-pub use footprints::{footprint_with_history, footprint_with_value};
+pub use footprints::{footprint_with_history, footprint_with_value, footprint_without_value};
 pub use ids::Ids;
 pub use laws::{delta_laws, new_id_laws, own_account_laws, restore_laws};
 pub use new_ids::{FIRST_NEW_ID, RING_SIZE, bump, first_candidate};
