@@ -1,10 +1,10 @@
 -- What a new account takes up.
-use Rattle.std.proofs.Common.{◌≡◌, ℕ, ◌+◌, ◌<◌, ◌^◌, List, [], sym, ap, ◌∙◌, arith, refl}
+use Rattle.std.proofs.Common.{◌≡◌, ℕ, ◌+◌, ◌<◌, ◌^◌, List, ap, ◌∙◌, arith}
 use Rattle.std.specs.List.{sum_by}
 use Rattle.std.specs.FinMap as fin
 use Rattle.jam_codec.specs.Lists.{hash_and_number_cmp}
 use Rattle.jam_accounts.specs.Accounts.{Storage, Lookups, bytes_cmp}
-use Rattle.jam_accounts.specs.Footprint.{storage_octets, lookups_octets, value_octets, history_octets, weight_at}
+use Rattle.jam_accounts.specs.Footprint.{storage_octets, lookups_octets, value_octets, history_octets}
 use Rattle.jam_accounts.specs.FootprintLaws.{history_put}
 use Rattle.jam_accounts.specs.MapLaws.{no_entries}
 

@@ -1,7 +1,7 @@
 -- The host calls that change accounts (Gray Paper 0.7.0, appendix B; the registers, the order of refusals, provide and what gratis waives
 -- are this project's own): a definition for each row of their table. A call by itself costs what every call does; transfer costs the
 -- gas that it sends, too.
-use Rattle.std.specs.Prelude.{ℕ, Bool, true, false, ◌+◌, ◌-◌, ◌^◌, ◌==◌, ◌&&◌, ◌||◌, not, nat_lt, nat_le, min, List, [], ◌∷◌, ◌++◌, length, replicate, Option, Some, None, Result, Ok, Err, if◌then◌else◌}
+use Rattle.std.specs.Prelude.{ℕ, Bool, true, false, ◌+◌, ◌-◌, ◌^◌, ◌==◌, ◌&&◌, not, nat_lt, nat_le, min, List, [], ◌∷◌, ◌++◌, length, replicate, Option, Some, None, Result, Ok, Err, if◌then◌else◌}
 use Rattle.std.specs.Option.{option_map, option_and_then}
 use Rattle.std.specs.List.{list_any}
 use Rattle.std.specs.Str.{bytes_eq}
@@ -35,7 +35,6 @@ can_spend account amount = nat_le (deposit account + amount) account.balance
 -- the history of a hash with a length, of a service: none from 2 ^ 32 on
 abbrev pub history_asked : Pair → ℕ → List ℕ → ℕ → Option (List ℕ)
 history_asked pair service hash length = if nat_lt length (2 ^ 32) then history_in pair service hash length else None
-
 
 -- ---- 17: checkpoint
 

@@ -29,9 +29,7 @@ fn is_over(slot: u32, history: Option<History>) -> bool
         return false;
     };
     match *history.slots() {
-        [_, forgotten] => {
-            u64::from(forgotten) + u64::from(EXPUNGE_PERIOD) < u64::from(slot)
-        }
+        [_, forgotten] => { u64::from(forgotten) + u64::from(EXPUNGE_PERIOD) < u64::from(slot) }
         _ => false,
     }
 }

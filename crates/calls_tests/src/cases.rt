@@ -10,7 +10,9 @@ use std::rc::Rc;
 
 /// What a call answers that finds nothing, and the answers of refusals, by the table of results.
 pub const NONE: u64 = 18_446_744_073_709_551_615;
+
 pub const WHAT: u64 = 18_446_744_073_709_551_614;
+
 pub const FULL: u64 = 18_446_744_073_709_551_611;
 
 /// The address of the first byte that may be written.

@@ -1,8 +1,6 @@
 //! Gas, fetch, lookup, read, info, and numbers that no call has.
 use crate::cases::*;
-use host_general::{
-    Inputs, call_fetch, call_gas, call_info, call_lookup, call_read, call_unknown,
-};
+use host_general::{Inputs, call_fetch, call_gas, call_info, call_lookup, call_read, call_unknown};
 use pvm_step::{Exit, HostStep, Machine};
 use std::alloc::{AllocError, Global};
 
@@ -26,10 +24,16 @@ fn calls_without_a_context_cost_ten(rt: HostRuntime) -> Result<(), AllocError> {
     for (gas, first, left, second, word, after) in rows {
         let mut one = machine(rt.alloc(), &[], [3; 6], gas)?;
         let step = call_gas(&mut one);
-        assert!(rt; (step, one.registers[7], one.ledger.left()) == (first, left, after), "gas {gas}");
+        assert!(rt;
+            (step, one.registers[7], one.ledger.left()) == (first, left, after),
+            "gas {gas}"
+        );
         let mut other = machine(rt.alloc(), &[], [3; 6], gas)?;
         let step = call_unknown(&mut other);
-        assert!(rt; (step, other.registers[7], other.ledger.left()) == (second, word, after), "gas {gas}");
+        assert!(rt;
+            (step, other.registers[7], other.ledger.left()) == (second, word, after),
+            "gas {gas}"
+        );
     }
     Ok(())
 }
@@ -72,13 +76,18 @@ fn fetch_gives_each_kind(rt: HostRuntime) -> Result<(), AllocError> {
         let words = [69_632, from, count, kind, index, 0];
         let mut machine = machine(rt.alloc(), &[], words, 100)?;
         let step = call_fetch(&mut machine, &inputs)?;
-        assert!(rt; came(step, &machine) == (HostStep::Go, length, 90, front), "kind {kind} index {index} from {from}");
+        assert!(rt;
+            came(step, &machine) == (HostStep::Go, length, 90, front),
+            "kind {kind} index {index} from {from}"
+        );
     }
     Ok(())
 }
 
 #[test]
-fn memory_that_may_not_be_written_panics_where_there_is_a_value(rt: HostRuntime) -> Result<(), AllocError> {
+fn memory_that_may_not_be_written_panics_where_there_is_a_value(
+    rt: HostRuntime,
+) -> Result<(), AllocError> {
     let inputs = inputs(rt.alloc(), None)?;
     // Where to, kind, from, count; the answer; register 7.
     let panic = HostStep::End(Exit::Panic);
@@ -89,12 +98,22 @@ fn memory_that_may_not_be_written_panics_where_there_is_a_value(rt: HostRuntime)
         (73_728, 1, 32, 9, HostStep::Go, 32),
         (4_294_967_296, 1, 0, 0, HostStep::Go, 32),
         (0, 2, 0, 9, HostStep::Go, NONE),
-        (18_446_744_073_709_551_615, 1, 0, 2, panic, 18_446_744_073_709_551_615),
+        (
+            18_446_744_073_709_551_615,
+            1,
+            0,
+            2,
+            panic,
+            18_446_744_073_709_551_615,
+        ),
     ];
     for (to, kind, from, count, wanted, word) in rows {
         let mut machine = machine(rt.alloc(), &[], [to, from, count, kind, 0, 0], 10)?;
         let step = call_fetch(&mut machine, &inputs)?;
-        assert!(rt; (step, machine.registers[7], machine.ledger.left()) == (wanted, word, 0), "to {to} from {from}");
+        assert!(rt;
+            (step, machine.registers[7], machine.ledger.left()) == (wanted, word, 0),
+            "to {to} from {from}"
+        );
     }
     Ok(())
 }
@@ -128,11 +147,17 @@ fn read_finds_services_and_keys(rt: HostRuntime) -> Result<(), AllocError> {
         let words = [service, place, length, 69_632, from, 9];
         let mut machine = machine(rt.alloc(), b"kq", words, 100)?;
         let step = call_read(rt.alloc(), &mut machine, &scope)?;
-        assert!(rt; came(step, &machine) == (HostStep::Go, wanted, 90, front), "service {service} length {length}");
+        assert!(rt;
+            came(step, &machine) == (HostStep::Go, wanted, 90, front),
+            "service {service} length {length}"
+        );
     }
     let mut machine = machine(rt.alloc(), b"k", [3, 0, 1, 69_632, 0, 9], 100)?;
     let step = call_read(rt.alloc(), &mut machine, &scope)?;
-    assert!(rt; came(step, &machine) == (HostStep::End(Exit::Panic), 3, 90, [0, 0]), "a key that may not be read");
+    assert!(rt;
+        came(step, &machine) == (HostStep::End(Exit::Panic), 3, 90, [0, 0]),
+        "a key that may not be read"
+    );
     Ok(())
 }
 
@@ -153,11 +178,17 @@ fn lookup_finds_preimages(rt: HostRuntime) -> Result<(), AllocError> {
         let words = [service, place, 69_632, from, 9, 0];
         let mut machine = machine(rt.alloc(), &hash, words, 100)?;
         let step = call_lookup(&mut machine, &scope)?;
-        assert!(rt; came(step, &machine) == (HostStep::Go, wanted, 90, front), "service {service} at {place}");
+        assert!(rt;
+            came(step, &machine) == (HostStep::Go, wanted, 90, front),
+            "service {service} at {place}"
+        );
     }
     let mut machine = machine(rt.alloc(), &hash, [1, 77_793, 69_632, 0, 9, 0], 9)?;
     let step = call_lookup(&mut machine, &scope)?;
-    assert!(rt; came(step, &machine) == (HostStep::Unpaid, 1, 0, [0, 0]), "too little gas");
+    assert!(rt;
+        came(step, &machine) == (HostStep::Unpaid, 1, 0, [0, 0]),
+        "too little gas"
+    );
     Ok(())
 }
 
@@ -182,7 +213,10 @@ fn info_tells_an_account(rt: HostRuntime) -> Result<(), AllocError> {
     for (service, wanted) in rows {
         let mut machine = machine(rt.alloc(), &[], [service, 69_632, 0, 100, 0, 0], 100)?;
         let step = call_info(rt.alloc(), &mut machine, &scope)?;
-        assert!(rt; came(step, &machine) == (HostStep::Go, 92, 90, [1, 1]), "service {service}");
+        assert!(rt;
+            came(step, &machine) == (HostStep::Go, 92, 90, [1, 1]),
+            "service {service}"
+        );
         let found = [
             number_at(&machine, 32),
             number_at(&machine, 40),
@@ -193,10 +227,16 @@ fn info_tells_an_account(rt: HostRuntime) -> Result<(), AllocError> {
             number_at(&machine, 80),
         ];
         assert!(rt; found == wanted, "service {service}");
-        assert!(rt; number_at(&machine, 88) == 9, "the slot of making, and then nothing");
+        assert!(rt;
+            number_at(&machine, 88) == 9,
+            "the slot of making, and then nothing"
+        );
     }
     let mut machine = machine(rt.alloc(), &[], [3, 0, 0, 100, 0, 0], 100)?;
     let step = call_info(rt.alloc(), &mut machine, &scope)?;
-    assert!(rt; came(step, &machine) == (HostStep::Go, NONE, 90, [0, 0]), "no such service");
+    assert!(rt;
+        came(step, &machine) == (HostStep::Go, NONE, 90, [0, 0]),
+        "no such service"
+    );
     Ok(())
 }

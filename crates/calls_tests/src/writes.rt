@@ -59,7 +59,9 @@ fn gratis_lowers_the_threshold(rt: HostRuntime) -> Result<(), AllocError> {
 }
 
 #[test]
-fn a_drop_is_refused_where_the_balance_is_too_low_after_it(rt: HostRuntime) -> Result<(), AllocError> {
+fn a_drop_is_refused_where_the_balance_is_too_low_after_it(
+    rt: HostRuntime,
+) -> Result<(), AllocError> {
     let mut one = account(rt.alloc(), 99, 0);
     keep(rt.alloc(), &mut one, b"k", b"1")?;
     let two = account(rt.alloc(), 0, 0);
@@ -89,7 +91,10 @@ fn key_and_value_must_be_readable(rt: HostRuntime) -> Result<(), AllocError> {
         let words = [key, key_length, value, length, 0, 0];
         let mut machine = machine(rt.alloc(), b"k", words, gas)?;
         let step = call_write(rt.alloc(), &mut machine, &mut scope)?;
-        assert!(rt; (step, machine.registers[7], machine.ledger.left()) == (wanted, word, left), "key at {key}, value at {value}");
+        assert!(rt;
+            (step, machine.registers[7], machine.ledger.left()) == (wanted, word, left),
+            "key at {key}, value at {value}"
+        );
     }
     Ok(())
 }

@@ -1,11 +1,13 @@
 // The own account, and whether its balance carries what it would keep.
-ghost use Rattle.std.specs.Prelude.{◌≡◌, ◌<◌, ◌≤◌, ◌-◌, ◌^◌, false, Some, IsSome, nat_lt, length, option_map};
+ghost use Rattle.std.specs.Prelude.{◌≡◌, ◌<◌, ◌^◌, false, Some, IsSome, nat_lt, length, option_map};
 ghost use Rattle.std.specs.FinMap as fin;
-ghost use Rattle.jam_accounts.specs.Footprint.{footprint_of, octets_of, threshold_of};
+ghost use Rattle.jam_accounts.specs.Footprint.{octets_of, threshold_of};
 ghost use Rattle.account_context.specs.Context.{account_in, own_account, view_of, drop_value, put_value, set_history, IsOwnWithinBound};
 ghost use Rattle.host_general.specs.Deposits.{is_overdrawn};
 
-use account_context::{AccountView, Scope, footprint_with_history, footprint_with_value};
+use account_context::{
+    AccountView, Scope, footprint_with_history, footprint_with_value, footprint_without_value,
+};
 use jam_accounts::{Footprint, threshold};
 use preimage_store::History;
 
@@ -49,27 +51,6 @@ pub(crate) fn own_value_length<S: Scope>(scope: &S, key: &[u8]) -> Option<u64>
     match scope.value(scope.service(), key) {
         Some(value) => Some(value.len() as u64),
         None => None,
-    }
-}
-
-// A footprint without one value, of so many octets.
-fn without(before: Footprint, octets: u128) -> Footprint
-    requires items { 1 ≤ before.items }
-    requires octets { octets ≤ before.octets }
-    requires bounded { before.items - 1 ≤ before.octets - octets }
-    ensures { result ≡ record { items = before.items - 1; octets = before.octets - octets } }
-{
-    Footprint::new(before.items() - 1, before.octets() - octets)
-}
-
-// What the own account would take up without the value under a key.
-fn footprint_without_value<S: Scope>(scope: &S, key: &[u8]) -> Footprint
-    ensures { result ≡ footprint_of (own_account (drop_value (S.pair scope.now) key.now)) }
-{
-    let before = own_view(scope).footprint;
-    match own_value_length(scope, key) {
-        Some(length) => without(before, 34 + key.len() as u128 + u128::from(length)),
-        None => before,
     }
 }
 
