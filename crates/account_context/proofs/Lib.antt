@@ -1,0 +1,5 @@
+pub mod Differences
+pub mod HalfPairs
+pub mod OwnAccounts
+pub mod OwnFootprints
+pub mod Restores

@@ -1,10 +1,10 @@
 -- What host calls read and change (Gray Paper 0.7.0, appendix B: the implications 𝐋 of an invocation, of which it has two, x and y).
 -- The shape of accounts and the choice of new numbers are this project's own.
-use Rattle.std.specs.Prelude.{ℕ, ◌+◌, ◌<◌, ◌^◌, List, [], ◌∷◌, ◌++◌, Option, Some, None, IsSome, unwrap_or}
-use Rattle.std.specs.Option.{option_map, option_and_then}
+use Rattle.std.specs.Prelude.{ℕ, ◌<◌, ◌^◌, nat_lt, List, [], ◌∷◌, ◌++◌, Option, Some, None, IsSome, if◌then◌else◌}
+use Rattle.std.specs.Option.{option_map, option_and_then, unwrap_or}
 use Rattle.std.specs.FinMap as fin
 use Rattle.jam_accounts.specs.Accounts.{Account, Accounts, blank_account}
-use Rattle.jam_accounts.specs.Footprint.{footprint_of, octets_of}
+use Rattle.jam_accounts.specs.Footprint.{Footprint, footprint_of, octets_of}
 use Rattle.account_context.specs.declared.transfer.Transfer.{Transfer}
 use Rattle.account_context.specs.declared.provided.Provided.{Provided}
 use Rattle.account_context.specs.declared.account_view.AccountView.{AccountView}
@@ -163,3 +163,7 @@ pub record IsLawful (pair : Pair) : Type 0 where
 -- the octets of the service's own account are below the bound of every account
 abbrev pub IsOwnWithinBound : Pair → Type 0
 IsOwnWithinBound pair = octets_of (own_account pair) < 2 ^ 100
+
+-- the footprint of an account whose octets are below the bound of every account
+abbrev pub fitting_footprint : Account → Option Footprint
+fitting_footprint account = if nat_lt (octets_of account) (2 ^ 100) then Some (footprint_of account) else None

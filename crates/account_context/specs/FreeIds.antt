@@ -22,23 +22,20 @@ taken_count pair = fin.len pair.base + fin.len (added_accounts pair)
 abbrev pub max_services : ℕ
 max_services = 2 ^ 24
 
--- the number that stands so many places after the candidate
-abbrev pub candidate_place : Pair → ℕ → ℕ
-candidate_place pair places = ring_place pair.now.candidate places
-
--- the first number that is not taken, of so many from a place on
-unfoldable pub first_free : Pair → ℕ → ℕ → Option ℕ
-first_free pair zero place = None
-first_free pair (suc n) place = if is_taken pair (candidate_place pair place) then first_free pair n (place + 1) else Some (candidate_place pair place)
+-- the first number that is not taken, of so many along the ring, from so many places after the candidate on
+unfoldable pub first_free : (ℕ → Bool) → ℕ → ℕ → ℕ → Option ℕ
+first_free taken candidate zero places = None
+first_free taken candidate (suc count) places =
+    if taken (ring_place candidate places) then first_free taken candidate count (places + 1) else Some (ring_place candidate places)
 
 -- the first of the whole ring; none where too many are taken
 unfoldable pub free_id : Pair → Option ℕ
-free_id pair = if nat_lt (taken_count pair) max_services then first_free pair ring_size 0 else None
+free_id pair = if nat_lt (taken_count pair) max_services then first_free (is_taken pair) pair.now.candidate ring_size 0 else None
 
 -- the same in other words: the number stands somewhere in the ring, is not taken, and all before it are
 pub record IsFirstFree (pair : Pair) (id : ℕ) : Type 0 where
-  pub place : ℕ
-  pub within : place < ring_size
-  pub stands : candidate_place pair place ≡ id
+  pub places : ℕ
+  pub within : places < ring_size
+  pub stands : ring_place pair.now.candidate places ≡ id
   pub free : is_taken pair id ≡ false
-  pub earlier : (k : ℕ) → k < place → is_taken pair (candidate_place pair k) ≡ true
+  pub earlier : (k : ℕ) → k < places → is_taken pair (ring_place pair.now.candidate k) ≡ true

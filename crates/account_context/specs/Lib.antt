@@ -3,4 +3,7 @@ pub mod Context
 pub mod FreeIds
 pub mod Difference
 pub mod Changes
+pub mod Held
 pub mod Coded
+pub mod NewIdLaws
+pub mod ContextLaws

@@ -1,67 +1,31 @@
--- Items by the lengths of the maps, and items against octets.
-use Rattle.std.proofs.Common.{Ordering, ◌≡◌, ℕ, suc, ◌+◌, ◌*◌, ◌≤◌, ◌<◌, ◌^◌, List, [], ◌∷◌, length, refl, ap, sym, ◌∙◌, subst, arith, Bool, true, false, Some, None, Option, option_map, is_some, unwrap_or}
+-- Footprints as the account of the program counts them; and accounts that still fit.
+use Rattle.std.proofs.Common.{Ordering, ◌≡◌, ℕ, ◌+◌, ◌*◌, ◌≤◌, ◌<◌, ◌^◌, List, ap, sym, ◌∙◌, subst, arith, Bool, true, false, Some, None, Option, option_map, is_some, unwrap_or, refl}
 use Rattle.std.specs.Prelude.{T, nat_lt, if◌then◌else◌}
 use Rattle.std.specs.List.{sum_by}
 use Rattle.std.specs.FinMap as fin
-use Rattle.std.proofs.lemmas.List.Sums.{sum_by-cons}
 use Rattle.std.specs.Cmp.Lexicographic.{nat_list_cmp_total}
-use Rattle.jam_accounts.proofs.Maps.{no_entries, bytes_same, lookups_same}
 use Rattle.jam_codec.specs.FormatLaws.{hash_and_number_total}
-use Rattle.jam_accounts.proofs.Sums.{sum_by-insert, sum_by-remove-le}
-use Rattle.jam_accounts.specs.Accounts.{Account, Storage, Lookups}
-use Rattle.jam_accounts.specs.Footprint.{items_of, octets_of, value_octets, history_octets, storage_octets, lookups_octets, fitting, weight_at, IsBounded}
-
-sum_by-constant : {A : Type 0} (n : ℕ) (xs : List A) → sum_by (λ (_ : A). n) xs ≡ n * length xs
-sum_by-constant n [] = omega arith
-sum_by-constant {A} n (x ∷ xs) = sum_by-cons (λ (_ : A). n) x xs ∙ ap (λ s. n + s) (sum_by-constant n xs) ∙ one_more n (length xs)
-  where
-    one_more : (n k : ℕ) → n + n * k ≡ n * suc k
-    one_more n k = grind arith
-
-at_most : (a b c d e f : ℕ) → e ≡ a + c → f ≡ b + d → a ≤ b → c ≤ d → e ≤ f
-at_most a b c d e f p q h i = omega (arith, p, q, h, i)
-
-sum_by-le-sum_by : {A : Type 0} (f g : A → ℕ) → ((x : A) → f x ≤ g x) → (xs : List A) → sum_by f xs ≤ sum_by g xs
-sum_by-le-sum_by f g h [] = omega arith
-sum_by-le-sum_by f g h (x ∷ xs) =
-    at_most (f x) (g x) (sum_by f xs) (sum_by g xs) (sum_by f (x ∷ xs)) (sum_by g (x ∷ xs)) (sum_by-cons f x xs) (sum_by-cons g x xs) (h x) (sum_by-le-sum_by f g h xs)
+use Rattle.jam_accounts.specs.Accounts.{Storage, Lookups}
+use Rattle.jam_accounts.specs.Footprint.{value_octets, history_octets, storage_octets, lookups_octets, fitting, weight_at, IsBounded}
+use Rattle.jam_accounts.specs.MapLaws.{no_entries, bytes_same, lookups_same}
+use Rattle.jam_accounts.specs.SumLaws.{sum_by-remove-le}
+use Rattle.jam_accounts.specs.FootprintLaws.{values_count, histories_count, values_le, histories_le, history_put}
 
 -- nothing takes up nothing
 pub no_octets : {K X : Type 0} (R : K → K → Ordering) (f : K × X → ℕ) (m : fin.FinMap R X) → m ≡ fin.empty → sum_by f (fin.entries m) ≡ 0
 no_octets R f m none = ap (λ x. sum_by f (fin.entries x)) none ∙ ap (sum_by f) (no_entries R)
 
 module _ (storage : Storage) (lookups : Lookups) where
-  values_count : sum_by (λ (_ : List ℕ × List ℕ). 1) (fin.entries storage) ≡ fin.len storage
-  values_count = sum_by-constant 1 (fin.entries storage) ∙ one (length (fin.entries storage)) ∙ sym (fin.len-entries storage)
-    where
-      one : (n : ℕ) → 1 * n ≡ n
-      one n = omega arith
-
-  histories_count : sum_by (λ (_ : (List ℕ × ℕ) × List ℕ). 2) (fin.entries lookups) ≡ 2 * fin.len lookups
-  histories_count = sum_by-constant 2 (fin.entries lookups) ∙ ap (λ n. 2 * n) (sym (fin.len-entries lookups))
-
-  values_le : sum_by (λ (_ : List ℕ × List ℕ). 1) (fin.entries storage) ≤ storage_octets storage
-  values_le = sum_by-le-sum_by (λ _. 1) value_octets (λ e. omega arith) (fin.entries storage)
-
-  histories_le : sum_by (λ (_ : (List ℕ × ℕ) × List ℕ). 2) (fin.entries lookups) ≤ lookups_octets lookups
-  histories_le = sum_by-le-sum_by (λ _. 2) history_octets (λ e. omega arith) (fin.entries lookups)
-
   pub counted : (n m : ℕ) → n ≡ fin.len storage → m ≡ fin.len lookups
       → n + 2 * m ≡ sum_by (λ (_ : List ℕ × List ℕ). 1) (fin.entries storage) + sum_by (λ (_ : (List ℕ × ℕ) × List ℕ). 2) (fin.entries lookups)
-  counted n m p q = omega (arith, p, q, values_count, histories_count)
+  counted n m p q = omega (arith, p, q, values_count storage lookups, histories_count storage lookups)
 
   pub bounded : (n m x y : ℕ) → n ≡ fin.len storage → m ≡ fin.len lookups → x ≡ storage_octets storage → y ≡ lookups_octets lookups
       → storage_octets storage + lookups_octets lookups < 2 ^ 100 → IsBounded (record { items = n + 2 * m; octets = x + y })
   bounded n m x y p q r s h = record {
-    items = omega (arith, p, q, r, s, values_count, histories_count, values_le, histories_le);
+    items = omega (arith, p, q, r, s, values_count storage lookups, histories_count storage lookups, values_le storage lookups, histories_le storage lookups);
     octets = omega (arith, r, s, h);
   }
-
-pub items_counted : (account : Account) → items_of account ≡ fin.len account.storage + 2 * fin.len account.lookups
-items_counted account = sym (counted account.storage account.lookups (fin.len account.storage) (fin.len account.lookups) refl refl)
-
-pub items_below : (account : Account) → items_of account ≤ octets_of account
-items_below account = omega (arith, values_le account.storage account.lookups, histories_le account.storage account.lookups)
 
 -- what takes up less still fits
 pub storage_less : (m n : Storage) (key : List ℕ) (rest : ℕ) → n ≡ fin.remove m key → storage_octets m + rest < 2 ^ 100 → storage_octets n + rest < 2 ^ 100
@@ -88,6 +52,6 @@ weighs_there (Some other) history n e = refl
 -- a history in place of one that is there takes up as much
 pub lookups_replaced : (m n : Lookups) (key : List ℕ × ℕ) (old new : List ℕ) → fin.get m key ≡ Some old → n ≡ fin.insert m key new → lookups_octets n ≡ lookups_octets m
 lookups_replaced m n key old new there is =
-    let sums : lookups_octets (fin.insert m key new) + weight_at history_octets m key ≡ lookups_octets m + (81 + key.1) = sum_by-insert hash_and_number_total lookups_same history_octets m key new in
+    let sums : lookups_octets (fin.insert m key new) + weight_at history_octets m key ≡ lookups_octets m + (81 + key.1) = history_put m key new in
     let weight : weight_at history_octets m key ≡ 81 + key.1 = weighs_there (fin.get m key) old (81 + key.1) there in
     ap lookups_octets is ∙ omega (arith, sums, weight)

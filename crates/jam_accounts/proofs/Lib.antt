@@ -1,3 +1,1 @@
 pub mod Footprints
-pub mod Maps
-pub mod Sums

@@ -5,3 +5,6 @@ pub mod Coded
 pub mod Seen
 pub mod Receipt
 pub mod PutBackLaws
+pub mod MapLaws
+pub mod SumLaws
+pub mod FootprintLaws

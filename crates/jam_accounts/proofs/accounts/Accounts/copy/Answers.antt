@@ -1,7 +1,7 @@
 use Rattle.std.proofs.Common.{◌∙◌, ℕ}
 use Rattle.std.specs.Ordering.{nat_cmp}
 use Rattle.jam_accounts.specs.Accounts.{Account}
-use Rattle.jam_accounts.proofs.Maps.{cloned}
+use Rattle.jam_accounts.specs.MapLaws.{cloned}
 use Rattle.jam_accounts.proofs.accounts.Accounts.copy.Goals as goal
 
 pub returns : goal.returns

@@ -4,7 +4,7 @@ use Rattle.std.specs.FinMap as fin
 use Rattle.std.specs.Cmp.{nat_cmp_total}
 use Rattle.jam_accounts.specs.Seen.{seen_entries}
 use Rattle.jam_accounts.specs.Accounts.{Account}
-use Rattle.jam_accounts.proofs.Maps.{entries_seen}
+use Rattle.jam_accounts.specs.MapLaws.{entries_seen}
 use Rattle.jam_accounts.proofs.accounts.Accounts.entries.Goals as goal
 
 pub returns : goal.returns

@@ -4,7 +4,7 @@ use Rattle.std.specs.FinMap as fin
 use Rattle.std.specs.Cmp.{nat_cmp_total}
 use Rattle.std.proofs.lemmas.Iterator.Adapters.{option_map_id}
 use Rattle.jam_accounts.specs.Accounts.{Account}
-use Rattle.jam_accounts.proofs.Maps.{got}
+use Rattle.jam_accounts.specs.MapLaws.{got}
 use Rattle.jam_accounts.proofs.accounts.Accounts.get.Goals as goal
 
 pub returns : goal.returns

@@ -3,7 +3,7 @@ use Rattle.std.specs.Ordering.{nat_cmp}
 use Rattle.std.specs.FinMap as fin
 use Rattle.std.specs.Cmp.{nat_cmp_total}
 use Rattle.jam_accounts.specs.Accounts.{Account}
-use Rattle.jam_accounts.proofs.Maps.{length_seen}
+use Rattle.jam_accounts.specs.MapLaws.{length_seen}
 use Rattle.jam_accounts.proofs.accounts.Accounts.len.Goals as goal
 
 pub returns-clause-count : goal.returns-clause-count

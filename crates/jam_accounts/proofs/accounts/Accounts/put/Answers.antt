@@ -4,7 +4,7 @@ use Rattle.std.specs.FinMap as fin
 use Rattle.std.specs.Cmp.{nat_cmp_total}
 use Rattle.std.specs.FinMap.{nat_cmp-IsAntisymmetric}
 use Rattle.jam_accounts.specs.Accounts.{Account}
-use Rattle.jam_accounts.proofs.Maps.{on_err, nothing_seen, inserted}
+use Rattle.jam_accounts.specs.MapLaws.{on_err, nothing_seen, inserted}
 use Rattle.jam_accounts.proofs.accounts.Accounts.put.Goals as goal
 
 pub returns-clause-ok : goal.returns-clause-ok

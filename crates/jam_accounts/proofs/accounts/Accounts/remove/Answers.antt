@@ -5,7 +5,7 @@ use Rattle.std.specs.Cmp.{nat_cmp_total}
 use Rattle.std.specs.FinMap.{nat_cmp-IsAntisymmetric}
 use Rattle.std.proofs.lemmas.Iterator.Adapters.{option_map_id}
 use Rattle.jam_accounts.specs.Accounts.{Account}
-use Rattle.jam_accounts.proofs.Maps.{got, removed}
+use Rattle.jam_accounts.specs.MapLaws.{got, removed}
 use Rattle.jam_accounts.proofs.accounts.Accounts.remove.Goals as goal
 
 pub returns-clause-value : goal.returns-clause-value

@@ -2,7 +2,7 @@ use Rattle.std.proofs.Common.{sym, subst, ◌∙◌, ℕ, List}
 use Rattle.std.specs.List.{each_same}
 use Rattle.jam_codec.specs.Lists.{hash_and_number_cmp}
 use Rattle.jam_accounts.specs.Accounts.{HaveShortLengths}
-use Rattle.jam_accounts.proofs.Maps.{cloned}
+use Rattle.jam_accounts.specs.MapLaws.{cloned}
 use Rattle.jam_accounts.proofs.lookups.Lookups.copy.Goals as goal
 
 pub invariant_of-result : goal.invariant_of-result

@@ -2,7 +2,7 @@ use Rattle.std.proofs.Common.{ap, sym, ◌∙◌, ℕ, List}
 use Rattle.std.specs.FinMap as fin
 use Rattle.jam_accounts.specs.Seen.{seen_entries}
 use Rattle.jam_codec.specs.Lists.{hash_and_number_cmp}
-use Rattle.jam_accounts.proofs.Maps.{entries_seen}
+use Rattle.jam_accounts.specs.MapLaws.{entries_seen}
 use Rattle.jam_codec.specs.FormatLaws.{hash_and_number_total}
 use Rattle.jam_accounts.proofs.lookups.Lookups.entries.Goals as goal
 

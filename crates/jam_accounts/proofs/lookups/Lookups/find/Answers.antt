@@ -2,7 +2,7 @@ use Rattle.std.proofs.Common.{ap, sym, ◌∙◌, ℕ, List}
 use Rattle.std.specs.FinMap as fin
 use Rattle.std.proofs.lemmas.Iterator.Adapters.{option_map_id}
 use Rattle.jam_codec.specs.Lists.{hash_and_number_cmp}
-use Rattle.jam_accounts.proofs.Maps.{got}
+use Rattle.jam_accounts.specs.MapLaws.{got}
 use Rattle.jam_codec.specs.FormatLaws.{hash_and_number_total}
 use Rattle.jam_accounts.proofs.lookups.Lookups.find.Goals as goal
 

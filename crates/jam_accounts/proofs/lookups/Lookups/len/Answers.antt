@@ -1,7 +1,7 @@
 use Rattle.std.proofs.Common.{ap, ◌∙◌, ℕ, List}
 use Rattle.std.specs.FinMap as fin
 use Rattle.jam_codec.specs.Lists.{hash_and_number_cmp}
-use Rattle.jam_accounts.proofs.Maps.{length_seen}
+use Rattle.jam_accounts.specs.MapLaws.{length_seen}
 use Rattle.jam_codec.specs.FormatLaws.{hash_and_number_total}
 use Rattle.jam_accounts.proofs.lookups.Lookups.len.Goals as goal
 

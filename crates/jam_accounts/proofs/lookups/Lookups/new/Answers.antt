@@ -3,7 +3,7 @@ use Rattle.std.specs.FinMap as fin
 use Rattle.jam_accounts.specs.Seen.{seen_entries}
 use Rattle.jam_codec.specs.Lists.{hash_and_number_cmp}
 use Rattle.jam_accounts.specs.Accounts.{HaveShortLengths}
-use Rattle.jam_accounts.proofs.Maps.{of_none}
+use Rattle.jam_accounts.specs.MapLaws.{of_none}
 use Rattle.jam_accounts.proofs.lookups.Lookups.new.Goals as goal
 
 pub invariant_of-result : goal.invariant_of-result

@@ -2,7 +2,7 @@ use Rattle.std.proofs.Common.{arith, ap, sym, subst, ◌∙◌, ℕ, List, ◌<�
 use Rattle.std.specs.FinMap as fin
 use Rattle.jam_codec.specs.Lists.{hash_and_number_cmp}
 use Rattle.jam_accounts.specs.Accounts.{HaveShortLengths}
-use Rattle.jam_accounts.proofs.Maps.{on_err, nothing_seen, inserted, of_inserted, lookups_same}
+use Rattle.jam_accounts.specs.MapLaws.{on_err, nothing_seen, inserted, of_inserted, lookups_same}
 use Rattle.jam_codec.specs.FormatLaws.{hash_and_number_total}
 use Rattle.jam_accounts.proofs.lookups.Lookups.put.Goals as goal
 

@@ -3,7 +3,7 @@ use Rattle.std.specs.FinMap as fin
 use Rattle.std.proofs.lemmas.Iterator.Adapters.{option_map_id}
 use Rattle.jam_codec.specs.Lists.{hash_and_number_cmp}
 use Rattle.jam_accounts.specs.Accounts.{HaveShortLengths}
-use Rattle.jam_accounts.proofs.Maps.{got, removed, of_removed, lookups_same}
+use Rattle.jam_accounts.specs.MapLaws.{got, removed, of_removed, lookups_same}
 use Rattle.jam_codec.specs.FormatLaws.{hash_and_number_total}
 use Rattle.jam_accounts.proofs.lookups.Lookups.remove.Goals as goal
 

@@ -1,7 +1,7 @@
 use Rattle.std.proofs.Common.{sym, subst, ◌∙◌, Vec, ℕ, List, Global}
 use Rattle.std.specs.List.{each_same}
 use Rattle.jam_accounts.specs.Accounts.{StandUnderDigests, bytes_cmp}
-use Rattle.jam_accounts.proofs.Maps.{cloned}
+use Rattle.jam_accounts.specs.MapLaws.{cloned}
 use Rattle.jam_accounts.proofs.preimages.Preimages.copy.Goals as goal
 
 pub invariant_of-result : goal.invariant_of-result

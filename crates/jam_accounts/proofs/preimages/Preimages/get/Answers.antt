@@ -3,7 +3,7 @@ use Rattle.std.specs.FinMap as fin
 use Rattle.std.specs.Cmp.Lexicographic.{nat_list_cmp_total}
 use Rattle.blake2b_core.specs.Blake2b.{digest}
 use Rattle.jam_accounts.specs.Accounts.{bytes_cmp}
-use Rattle.jam_accounts.proofs.Maps.{got}
+use Rattle.jam_accounts.specs.MapLaws.{got}
 use Rattle.jam_accounts.proofs.preimages.Preimages.get.Goals as goal
 
 pub returns-in-Some-clause-value : goal.returns-in-Some-clause-value

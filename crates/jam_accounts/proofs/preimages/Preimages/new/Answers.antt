@@ -3,7 +3,7 @@ use Rattle.std.specs.FinMap as fin
 use Rattle.blake2b_core.specs.Blake2b.{digest}
 use Rattle.jam_accounts.specs.Accounts.{StandUnderDigests, bytes_cmp}
 use Rattle.jam_accounts.specs.Seen.{seen_entries}
-use Rattle.jam_accounts.proofs.Maps.{of_none}
+use Rattle.jam_accounts.specs.MapLaws.{of_none}
 use Rattle.jam_accounts.proofs.preimages.Preimages.new.Goals as goal
 
 pub invariant_of-result : goal.invariant_of-result

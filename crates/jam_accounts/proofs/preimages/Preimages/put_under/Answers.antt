@@ -3,7 +3,7 @@ use Rattle.std.specs.FinMap as fin
 use Rattle.std.specs.Cmp.Lexicographic.{nat_list_cmp_total}
 use Rattle.blake2b_core.specs.Blake2b.{digest}
 use Rattle.jam_accounts.specs.Accounts.{StandUnderDigests, bytes_cmp}
-use Rattle.jam_accounts.proofs.Maps.{on_err, nothing_seen, inserted, of_inserted, bytes_same}
+use Rattle.jam_accounts.specs.MapLaws.{on_err, nothing_seen, inserted, of_inserted, bytes_same}
 use Rattle.jam_accounts.proofs.preimages.Preimages.put_under.Goals as goal
 
 pub invariant_of-self-2 : goal.invariant_of-self-2

@@ -3,7 +3,7 @@ use Rattle.std.specs.FinMap as fin
 use Rattle.std.specs.Cmp.Lexicographic.{nat_list_cmp_total}
 use Rattle.blake2b_core.specs.Blake2b.{digest}
 use Rattle.jam_accounts.specs.Accounts.{StandUnderDigests, bytes_cmp}
-use Rattle.jam_accounts.proofs.Maps.{got, removed, of_removed, bytes_same}
+use Rattle.jam_accounts.specs.MapLaws.{got, removed, of_removed, bytes_same}
 use Rattle.jam_accounts.proofs.preimages.Preimages.remove.Goals as goal
 
 pub invariant_of-self : goal.invariant_of-self

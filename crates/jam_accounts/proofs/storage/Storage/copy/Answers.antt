@@ -1,7 +1,7 @@
 use Rattle.std.proofs.Common.{◌∙◌, Vec, ℕ, Global}
 use Rattle.std.specs.List.{each_same}
 use Rattle.jam_accounts.specs.Accounts.{bytes_cmp}
-use Rattle.jam_accounts.proofs.Maps.{cloned}
+use Rattle.jam_accounts.specs.MapLaws.{cloned}
 use Rattle.jam_accounts.proofs.storage.Storage.copy.Goals as goal
 
 pub returns : goal.returns

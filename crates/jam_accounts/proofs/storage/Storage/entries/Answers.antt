@@ -3,7 +3,7 @@ use Rattle.std.specs.FinMap as fin
 use Rattle.std.specs.Cmp.Lexicographic.{nat_list_cmp_total}
 use Rattle.jam_accounts.specs.Accounts.{bytes_cmp}
 use Rattle.jam_accounts.specs.Seen.{seen_entries}
-use Rattle.jam_accounts.proofs.Maps.{entries_seen}
+use Rattle.jam_accounts.specs.MapLaws.{entries_seen}
 use Rattle.jam_accounts.proofs.storage.Storage.entries.Goals as goal
 
 pub returns : goal.returns

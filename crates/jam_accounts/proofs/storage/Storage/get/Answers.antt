@@ -2,7 +2,7 @@ use Rattle.std.proofs.Common.{ap, sym, ◌∙◌, Some, option_map, Vec, ℕ, Gl
 use Rattle.std.specs.FinMap as fin
 use Rattle.std.specs.Cmp.Lexicographic.{nat_list_cmp_total}
 use Rattle.jam_accounts.specs.Accounts.{bytes_cmp}
-use Rattle.jam_accounts.proofs.Maps.{got}
+use Rattle.jam_accounts.specs.MapLaws.{got}
 use Rattle.jam_accounts.proofs.storage.Storage.get.Goals as goal
 
 pub returns-in-Some : goal.returns-in-Some

@@ -2,7 +2,7 @@ use Rattle.std.proofs.Common.{ap, ◌∙◌, Vec, ℕ, Global}
 use Rattle.std.specs.FinMap as fin
 use Rattle.std.specs.Cmp.Lexicographic.{nat_list_cmp_total}
 use Rattle.jam_accounts.specs.Accounts.{bytes_cmp}
-use Rattle.jam_accounts.proofs.Maps.{length_seen}
+use Rattle.jam_accounts.specs.MapLaws.{length_seen}
 use Rattle.jam_accounts.proofs.storage.Storage.len.Goals as goal
 
 pub returns-clause-count : goal.returns-clause-count

@@ -2,7 +2,7 @@ use Rattle.std.proofs.Common.{ap, sym, ◌∙◌, Vec, ℕ, Global}
 use Rattle.std.specs.FinMap as fin
 use Rattle.std.specs.Cmp.Lexicographic.{nat_list_cmp_total}
 use Rattle.jam_accounts.specs.Accounts.{bytes_cmp}
-use Rattle.jam_accounts.proofs.Maps.{on_err, nothing_seen, inserted, bytes_same}
+use Rattle.jam_accounts.specs.MapLaws.{on_err, nothing_seen, inserted, bytes_same}
 use Rattle.jam_accounts.proofs.storage.Storage.put.Goals as goal
 
 pub returns-clause-ok : goal.returns-clause-ok

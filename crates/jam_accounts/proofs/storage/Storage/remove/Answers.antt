@@ -2,7 +2,7 @@ use Rattle.std.proofs.Common.{ap, sym, ◌∙◌, option_map, Vec, ℕ, Global}
 use Rattle.std.specs.FinMap as fin
 use Rattle.std.specs.Cmp.Lexicographic.{nat_list_cmp_total}
 use Rattle.jam_accounts.specs.Accounts.{bytes_cmp}
-use Rattle.jam_accounts.proofs.Maps.{got, removed, bytes_same}
+use Rattle.jam_accounts.specs.MapLaws.{got, removed, bytes_same}
 use Rattle.jam_accounts.proofs.storage.Storage.remove.Goals as goal
 
 pub returns-clause-value : goal.returns-clause-value

@@ -17,7 +17,7 @@ use Rattle.std.proofs.lemmas.Map.Keys.{sorted_tail}
 use Rattle.std.proofs.lemmas.Map.Entries.{none_below_head}
 use Rattle.jam_codec.specs.FormatLaws.{left_holds, right_holds, holds_less}
 use Rattle.jam_accounts.specs.Footprint.{weight_at}
-use Rattle.jam_accounts.proofs.Maps.{find_is}
+use Rattle.jam_accounts.specs.MapLaws.{find_is}
 use Rattle.jam_accounts.specs.PutBackLaws.{equal}
 
 module _ {K X : Type 0} (R : K → K → Ordering) where

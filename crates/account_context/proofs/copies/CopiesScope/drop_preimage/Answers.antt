@@ -1,0 +1,8 @@
+use Rattle.account_context.specs.Context.{without_preimage}
+use Rattle.account_context.proofs.HalfPairs.{lawful_own}
+use Rattle.account_context.proofs.copies.CopiesScope.drop_preimage.Goals as goal
+
+pub invariant_of-self-2 : goal.invariant_of-self-2
+invariant_of-self-2 c =
+    lawful_own c.self.inside.base.now.accounts c.self.inside.service c.self.inside.now c.self.inside.saved c.part.new.saved c.in_ok-part.ensures.ok c.self.invariant
+    (without_preimage c.args.hash.now) c.drop_preimage.new.accounts c.drop_preimage.ensures
