@@ -1,0 +1,6 @@
+//! Programs that were read before.
+#![tactic(auto)]
+
+mod cache;
+
+pub use cache::Cache;

@@ -1,0 +1,9 @@
+mod Exits
+mod Steps
+mod Following
+mod Running
+mod Calling
+mod Lists
+mod Paid
+mod Longer
+mod Taken
