@@ -1,0 +1,69 @@
+// What a line gives that stands alone.
+ghost use Rattle.std.specs.Prelude.{◌≡◌, [], Some, None, IfOk, if◌then◌else◌};
+ghost use Rattle.pvm_asm.specs.Statements.{read_line};
+ghost use Rattle.pvm_asm.specs.Alone.{statement_code, line_code};
+
+use crate::encode::push_instruction;
+use crate::fits::{instruction_fits, is_known};
+use crate::instruction::Instruction;
+use crate::labels::Labels;
+use crate::line::{Statement, read_line};
+use std::alloc::{AllocError, Global};
+
+// Adds the bytes of an instruction that fits at a place and names no label; false where it does not.
+fn instruction_code(
+    alloc: Global,
+    place: u64,
+    instruction: &Instruction<'_>,
+    out: &mut Vec<u8>,
+) -> Result<bool, AllocError>
+    requires { out.old.items ≡ [] }
+    ensures { IfOk result (λ given. (if given then Some out.new.items else None) ≡ statement_code place (Statement.Instruction instruction.now)) }
+{
+    let labels = Labels::new(alloc);
+    if !instruction_fits(place, instruction) || !is_known(&labels, &instruction.target) {
+        return Ok(false);
+    }
+    push_instruction(out, &labels, place, instruction)?;
+    Ok(true)
+}
+
+fn statement_code(
+    alloc: Global,
+    place: u64,
+    statement: &Statement<'_>,
+    out: &mut Vec<u8>,
+) -> Result<bool, AllocError>
+    requires { out.old.items ≡ [] }
+    ensures { IfOk result (λ given. (if given then Some out.new.items else None) ≡ statement_code place statement.now) }
+{
+    match statement {
+        Statement::Unit(bytes) => {
+            bytes.push_to(out)?;
+            Ok(true)
+        }
+        Statement::Instruction(instruction) => instruction_code(alloc, place, instruction, out),
+        _ => Ok(false),
+    }
+}
+
+/// The bytes of code that a line gives at a place, in place of those that `out` held. False where it gives none, has a
+/// label or names one.
+///
+/// # Errors
+/// Want of memory.
+pub fn line_code(
+    alloc: Global,
+    place: u64,
+    line: &[u8],
+    out: &mut Vec<u8>,
+) -> Result<bool, AllocError>
+    ensures { IfOk result (λ given. (if given then Some out.new.items else None) ≡ line_code place (read_line line.now)) }
+{
+    out.clear();
+    let line = read_line(line);
+    if line.label.is_some() {
+        return Ok(false);
+    }
+    statement_code(alloc, place, &line.statement, out)
+}
