@@ -7,14 +7,14 @@ use Rattle.pvm_isa.specs.declared.op.Op.{Op}
 use Rattle.pvm_isa.specs.Opcodes.{form_of, op_numbered}
 use Rattle.pvm_asm.specs.Statements.{read_line}
 use Rattle.pvm_asm.specs.Alone.{line_code}
-use Rattle.pvm_disasm.specs.Units.{is_given, assembles, instruction_text, destinations, offset_in, unit_args, named_line, byte_line, line_by, unit_line}
+use Rattle.pvm_disasm.specs.Units.{is_unit_given, assembles, instruction_text, destinations, offset_in, unit_args, named_line, byte_line, line_by, unit_line}
 use Rattle.pvm_disasm.proofs.Lists.{found-passes}
 use Rattle.pvm_disasm.proofs.Said.{reads-unit}
 
 abbrev Gives : ℕ → List ℕ → List ℕ → Type 0
 Gives place unit line = line_code place (read_line line) ≡ Some unit
 
-given-is : (unit : List ℕ) (o : Option (List ℕ)) → is_given unit o ≡ true → o ≡ Some unit
+given-is : (unit : List ℕ) (o : Option (List ℕ)) → is_unit_given unit o ≡ true → o ≡ Some unit
 given-is unit None h = absurd (cc h)
 given-is unit (Some given) h = ap Some ((bytes_eq-Decides given unit).0 h)
 

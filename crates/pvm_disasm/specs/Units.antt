@@ -71,13 +71,13 @@ instruction_text op args to = name_of op ++ operands_text (map (operand_text arg
 
 -- ---- Units
 
-abbrev pub is_given : List ℕ → Option (List ℕ) → Bool
-is_given unit None = false
-is_given unit (Some given) = bytes_eq given unit
+abbrev pub is_unit_given : List ℕ → Option (List ℕ) → Bool
+is_unit_given unit None = false
+is_unit_given unit (Some given) = bytes_eq given unit
 
 -- a line assembles to the bytes of a unit at a place
 abbrev pub assembles : ℕ → List ℕ → List ℕ → Bool
-assembles place unit line = is_given unit (line_code place (read_line line))
+assembles place unit line = is_unit_given unit (line_code place (read_line line))
 
 -- the ways to write a target so far from a place: as a place, where it is not below 0, and then as an offset
 abbrev pub place_first : Option ℕ → ℕ → List Destination
