@@ -1,13 +1,16 @@
 // What a line gives that stands alone.
 ghost use Rattle.std.specs.Prelude.{◌≡◌, [], Some, None, IfOk, if◌then◌else◌};
-ghost use Rattle.pvm_asm.specs.Statements.{read_line};
-ghost use Rattle.pvm_asm.specs.Alone.{statement_code, line_code};
+ghost use Rattle.pvm_asm.specs.Words.{operands_of};
+ghost use Rattle.pvm_asm.specs.Statements.{instruction_statement};
+ghost use Rattle.pvm_asm.specs.Alone.{statement_code};
 
 use crate::encode::push_instruction;
 use crate::fits::{instruction_fits, is_known};
 use crate::instruction::Instruction;
 use crate::labels::Labels;
-use crate::line::{Statement, read_line};
+use crate::line::{Statement, instruction_statement};
+use crate::words::Operands;
+use pvm_isa::Op;
 use std::alloc::{AllocError, Global};
 
 // Adds the bytes of an instruction that fits at a place and names no label; false where it does not.
@@ -47,23 +50,25 @@ fn statement_code(
     }
 }
 
-/// The bytes of code that a line gives at a place, in place of those that `out` held. False where it gives none, has a
-/// label or names one.
+/// The bytes of code that a line gives at a place which is the name of an opcode and these operands, in place of those that
+/// `out` held. False where it gives none, or names a label.
 ///
 /// # Errors
 /// Want of memory.
-pub fn line_code(
+pub fn operands_code(
     alloc: Global,
     place: u64,
-    line: &[u8],
+    op: Op,
+    operands: &[u8],
     out: &mut Vec<u8>,
 ) -> Result<bool, AllocError>
-    ensures { IfOk result (λ given. (if given then Some out.new.items else None) ≡ line_code place (read_line line.now)) }
+    ensures { IfOk result (λ given. (if given then Some out.new.items else None) ≡ statement_code place (instruction_statement op (operands_of operands.now))) }
 {
     out.clear();
-    let line = read_line(line);
-    if line.label.is_some() {
-        return Ok(false);
-    }
-    statement_code(alloc, place, &line.statement, out)
+    statement_code(
+        alloc,
+        place,
+        &instruction_statement(op, Operands::new(operands)),
+        out,
+    )
 }

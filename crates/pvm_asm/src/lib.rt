@@ -20,7 +20,7 @@ mod survey;
 mod word;
 mod words;
 
-pub use alone::line_code;
+pub use alone::operands_code;
 pub use assembly::assemble;
 pub use instruction::{Operand, form_operands};
 pub use kind::{AsmKind, kind_text};

@@ -6,6 +6,7 @@ pub mod Said
 pub mod Moves
 pub mod Spelled
 pub mod Units
+pub mod Named
 pub mod Texts
 pub mod Walks
 pub mod Law

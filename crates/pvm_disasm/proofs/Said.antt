@@ -43,13 +43,13 @@ no-mark m b low h = let other : (b == m) ≡ false = ne_eqb b m (λ e. absurd (o
 words : (xs : List ℕ) → IsDense xs → list_all (λ b. not (is_blank b)) xs ≡ true
 words xs h = dense-is (λ b. not (is_blank b)) (λ b low. ap not (no-blank b low)) xs h
 
-unmarked : (m : ℕ) → m < 45 → (xs : List ℕ) → IsDense xs → list_all (λ b. not (b == m)) xs ≡ true
+pub unmarked : (m : ℕ) → m < 45 → (xs : List ℕ) → IsDense xs → list_all (λ b. not (b == m)) xs ≡ true
 unmarked m low xs h = dense-is (λ b. not (b == m)) (λ b high. no-mark m b low high) xs h
 
 -- ---- Words
 
 -- no blank stands before a byte that is none
-unpadded-word : (b : ℕ) (bs : List ℕ) → nat_le 45 b ≡ true → unpadded (b ∷ bs) ≡ b ∷ bs
+pub unpadded-word : (b : ℕ) (bs : List ℕ) → nat_le 45 b ≡ true → unpadded (b ∷ bs) ≡ b ∷ bs
 unpadded-word b bs h =
     let here : is_blank b ≡ false = no-blank b (leb-true 45 b h) in
     ap (λ k. drop k (b ∷ bs)) (cond-false (not (not (is_blank b))) (1 + prefix_len (λ x. not (not (is_blank x))) bs) 0 (ap (λ t. not (not t)) here))
@@ -61,18 +61,18 @@ unpadded-blank bs =
     ap (λ n. drop n (32 ∷ bs)) next
 
 -- the word before a blank
-first-before : (word rest : List ℕ) → IsDense word → first_word (word ++ (32 ∷ rest)) ≡ word
+pub first-before : (word rest : List ℕ) → IsDense word → first_word (word ++ (32 ∷ rest)) ≡ word
 first-before word rest h =
     ap (λ k. take k (word ++ (32 ∷ rest))) (prefix-stops (λ b. not (is_blank b)) word 32 rest (words word h) refl) ∙ take_at word (32 ∷ rest) (length word) refl
 
-after-before : (word rest : List ℕ) → IsDense word → after_word (word ++ (32 ∷ rest)) ≡ 32 ∷ rest
+pub after-before : (word rest : List ℕ) → IsDense word → after_word (word ++ (32 ∷ rest)) ≡ 32 ∷ rest
 after-before word rest h =
     ap (λ k. drop k (word ++ (32 ∷ rest))) (prefix-stops (λ b. not (is_blank b)) word 32 rest (words word h) refl) ∙ drop_at word (32 ∷ rest) (length word) refl
 
-first-whole : (word : List ℕ) → IsDense word → first_word word ≡ word
+pub first-whole : (word : List ℕ) → IsDense word → first_word word ≡ word
 first-whole word h = ap (λ k. take k word) (prefix-whole (λ b. not (is_blank b)) word (words word h)) ∙ take_all (length word) word (omega arith)
 
-after-whole : (word : List ℕ) → IsDense word → after_word word ≡ []
+pub after-whole : (word : List ℕ) → IsDense word → after_word word ≡ []
 after-whole word h = ap (λ k. drop k word) (prefix-whole (λ b. not (is_blank b)) word (words word h)) ∙ drop_all (length word) word (omega arith)
 
 -- where no mark stands, there is one piece
@@ -88,7 +88,7 @@ one-piece mark (x ∷ xs) h =
     ] in
     by (x == mark) parts.0
 
-not-empty : (x : ℕ) (xs : List ℕ) → is_empty (x ∷ xs) ≡ false
+pub not-empty : (x : ℕ) (xs : List ℕ) → is_empty (x ∷ xs) ≡ false
 not-empty x xs = ne_eqb (suc (length xs)) 0 (λ e. absurd (omega (arith, e)))
 
 -- one operand: a word, alone or before a blank
@@ -144,10 +144,10 @@ operand-is rest word o =
 -- ---- Lines of a name and an operand
 
 -- a name that a line can begin with
-record IsName (name : List ℕ) : Type 0 where
-  dense : IsDense name
-  some : 0 < length name
-  no_label : is_label_mark name ≡ false
+pub record IsName (name : List ℕ) : Type 0 where
+  pub dense : IsDense name
+  pub some : 0 < length name
+  pub no_label : is_label_mark name ≡ false
 
 named-is : (name rest word : List ℕ) → IsName name → IsOperand rest word → statement_in (name ++ (32 ∷ rest)) ≡ named_statement (sort_named name) name (word ∷ [])
 named-is [] rest word n o = absurd (omega (arith, n.some))
@@ -162,7 +162,7 @@ text-unpadded : (name rest : List ℕ) → IsName name → unpadded (name ++ (32
 text-unpadded [] rest n = absurd (omega (arith, n.some))
 text-unpadded (c ∷ cs) rest n = unpadded-word c (cs ++ (32 ∷ rest)) (and_parts (nat_le 45 c) (list_all (nat_le 45) cs) n.dense).0
 
-abbrev read_by : List ℕ → List ℕ → Line
+abbrev pub read_by : List ℕ → List ℕ → Line
 read_by first text = if is_label_mark first then record { label = Some (take (length first - 1) first); statement = statement_in (unpadded (after_word text)) } else record { label = None; statement = statement_in text }
 
 reads-name : (line name rest word : List ℕ) → IsName name → IsOperand rest word → uncommented line ≡ name ++ (32 ∷ rest)

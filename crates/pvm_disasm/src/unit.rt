@@ -1,10 +1,13 @@
 // The lines of units.
-ghost use Rattle.std.specs.Prelude.{◌≡◌, ◌<◌, ◌^◌, ◌++◌, length, Some, None, IfOk, OnOk, string_bytes, codes, if◌then◌else◌};
+ghost use Rattle.std.specs.Prelude.{◌≡◌, ◌<◌, ◌≤◌, ◌^◌, ◌++◌, length, drop, Some, None, IfOk, OnOk, string_bytes, codes, if◌then◌else◌};
 ghost use Rattle.hex.specs.Hex.{encode_lower};
-ghost use Rattle.pvm_disasm.specs.Units.{instruction_text, assembles, named_line, unit_line};
+ghost use Rattle.pvm_asm.specs.Words.{operands_of};
+ghost use Rattle.pvm_asm.specs.Statements.{instruction_statement};
+ghost use Rattle.pvm_asm.specs.Alone.{statement_code};
+ghost use Rattle.pvm_disasm.specs.Units.{is_unit_given, instruction_text, assembles, named_line, unit_line};
 
 use crate::operands::{Destination, offset_in, place_at, push_instruction, unit_args};
-use pvm_asm::line_code;
+use pvm_asm::operands_code;
 use pvm_isa::{Args, Op, form_of, name_of, op_of};
 use std::alloc::{AllocError, Global};
 
@@ -26,12 +29,14 @@ impl UnitWriter {
         }
     }
 
-    // Whether the line assembles to a unit at a place.
-    fn assembles(&mut self, place: u64, unit: &[u8]) -> Result<bool, AllocError>
+    // Whether an instruction with these operands assembles to a unit at a place.
+    fn gives(&mut self, place: u64, unit: &[u8], op: Op, from: usize) -> Result<bool, AllocError>
+        requires { from ≤ length (string_bytes self.old.line) }
         ensures line { string_bytes self.new.line ≡ string_bytes self.old.line }
-        ensures found { IfOk result (λ found. found ≡ assembles place unit.now (string_bytes self.old.line)) }
+        ensures found { IfOk result (λ found. found ≡ is_unit_given unit.now (statement_code place (instruction_statement op (operands_of (drop from (string_bytes self.old.line)))))) }
     {
-        if line_code(self.alloc, place, self.line.as_bytes(), &mut self.given)? {
+        let operands = &self.line.as_bytes()[from..];
+        if operands_code(self.alloc, place, op, operands, &mut self.given)? {
             Ok(self.given.as_slice() == unit)
         } else {
             Ok(false)
@@ -52,7 +57,7 @@ impl UnitWriter {
     {
         self.line.clear();
         push_instruction(&mut self.line, op, args, to)?;
-        self.assembles(place, unit)
+        self.gives(place, unit, op, name_of(op).len())
     }
 
     // Writes a unit at a place by name; false where that line does not assemble to it.
