@@ -1,5 +1,7 @@
-//! Tests of the assembler by its public call.
+//! Tests of the assembler and of the listing by their public calls.
 #![tactic(auto)]
 
+#[cfg(test)]
+mod listings;
 #[cfg(test)]
 mod texts;

@@ -14,6 +14,7 @@ use Rattle.pvm_step.specs.Machine.{moment}
 use Rattle.pvm_invoke.specs.Outcome.{Outcome}
 use Rattle.pvm_asm.specs.declared.kind.AsmKind.{AsmKind}
 use Rattle.pvm_asm.specs.Assembly.{assembly}
+use Rattle.pvm_disasm.specs.Listing.{listing}
 use Rattle.trace_text.specs.declared.line.Line.{Line}
 use Rattle.trace_text.specs.declared.line.Line.TheVariants as of
 use Rattle.trace_text.specs.Transcript.{text_of, block, state_lines}
@@ -148,6 +149,10 @@ assembled name (Err refusal) = bad_line refusal.0 refusal.1
 abbrev pub asm_work : List ℕ → List ℕ → Work
 asm_work text name = assembled name (assembly text)
 
+-- disasm: the listing of the program
+abbrev pub disasm_work : blob.Program → Work
+disasm_work program = made (record { printed = listing program; entry = None })
+
 -- the lines of a batch that makes no group; its own lines, and the digest of the posterior's bytes
 abbrev pub batch_lines : Posterior → List ℕ → List Line
 batch_lines p bytes =
@@ -167,6 +172,7 @@ work_of the.Trace arguments values = trace_work values.0 arguments.1.0 arguments
 work_of the.Show arguments values = show_work values.0
 work_of the.Hash arguments values = hash_work values.0
 work_of the.Asm arguments values = asm_work values.0 arguments.1.0
+work_of the.Disasm arguments values = disasm_work values.0
 work_of the.Accumulate arguments values = accumulate_work values.0 values.1.0 arguments.1.1.0
 
 abbrev pub work : (c : Command) → Values (kinds (inputs c)) → Work

@@ -39,6 +39,7 @@ asked (of.Trace standard entry gas args last) = command the.Trace (standard.now,
 asked (of.Show state) = command the.Show (state.now, tt)
 asked (of.Hash file) = command the.Hash (file.now, tt)
 asked (of.Asm text out) = command the.Asm (text.now, (out.now, tt))
+asked (of.Disasm blob) = command the.Disasm (blob.now, tt)
 asked (of.Accumulate state batch posterior slice) = command the.Accumulate (state.now, (batch.now, (posterior.now, (slice, tt))))
 
 -- the inputs that the code holds

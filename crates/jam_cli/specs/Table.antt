@@ -28,10 +28,11 @@ row the.Trace = record { name = codes "trace"; parts = reads Standard ∷ (numbe
 row the.Show = record { name = codes "show"; parts = reads State ∷ [] }
 row the.Hash = record { name = codes "hash"; parts = reads Bytes ∷ [] }
 row the.Asm = record { name = codes "asm"; parts = reads Text ∷ (stores ∷ []) }
+row the.Disasm = record { name = codes "disasm"; parts = reads Program ∷ [] }
 row the.Accumulate = record { name = codes "accumulate"; parts = reads State ∷ (reads Batch ∷ (stores ∷ (number 0 1 ∷ []))) }
 
 abbrev pub verbs : List Verb
-verbs = the.Run ∷ (the.Trace ∷ (the.Show ∷ (the.Hash ∷ (the.Asm ∷ (the.Accumulate ∷ [])))))
+verbs = the.Run ∷ (the.Trace ∷ (the.Show ∷ (the.Hash ∷ (the.Asm ∷ (the.Disasm ∷ (the.Accumulate ∷ []))))))
 
 -- the verb with a name, if there is one
 unfoldable pub verb_named : List ℕ → Option Verb

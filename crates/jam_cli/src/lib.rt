@@ -5,6 +5,7 @@ mod accumulate;
 mod argument;
 mod asm;
 mod deliver;
+mod disasm;
 mod hash;
 mod kept;
 mod laws;

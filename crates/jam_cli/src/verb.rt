@@ -27,6 +27,7 @@ pub enum Verb {
     Show,
     Hash,
     Asm,
+    Disasm,
     Accumulate,
 }
 
@@ -41,6 +42,7 @@ pub fn verb_of(word: &str) -> Option<Verb>
         "show" => Some(Verb::Show),
         "hash" => Some(Verb::Hash),
         "asm" => Some(Verb::Asm),
+        "disasm" => Some(Verb::Disasm),
         "accumulate" => Some(Verb::Accumulate),
         _ => None,
     }

@@ -37,6 +37,8 @@ pub enum Command<'a> {
         text: &'a str,
         out: &'a str,
     },
+    /// `disasm BLOB`: a text that is assembled to a program blob.
+    Disasm(&'a str),
     /// `accumulate STATE BATCH POSTERIOR SLICE`: stores the state that a batch makes of a state.
     Accumulate {
         state: &'a str,
@@ -155,6 +157,20 @@ fn asm_of<'a>(alloc: Global, words: &'a [String]) -> Result<Line<'a>, Misfit>
     })
 }
 
+fn disasm_of<'a>(alloc: Global, words: &'a [String]) -> Result<Line<'a>, Misfit>
+    ensures { Parses the.Disasm (texts words.now) result }
+{
+    let [blob] = words else {
+        return Err(Misfit::OtherWords);
+    };
+    let blob = name(blob)?;
+    Ok(Line {
+        command: Command::Disasm(blob),
+        inputs: vec![in alloc; input(1, blob, Kind::Program)]?,
+        stored: None,
+    })
+}
+
 fn accumulate_of<'a>(alloc: Global, words: &'a [String]) -> Result<Line<'a>, Misfit>
     ensures { Parses the.Accumulate (texts words.now) result }
 {
@@ -189,6 +205,7 @@ fn parse<'a>(alloc: Global, verb: Verb, words: &'a [String]) -> Result<Line<'a>,
         Verb::Show => show_of(alloc, words),
         Verb::Hash => hash_of(alloc, words),
         Verb::Asm => asm_of(alloc, words),
+        Verb::Disasm => disasm_of(alloc, words),
         Verb::Accumulate => accumulate_of(alloc, words),
     }
 }

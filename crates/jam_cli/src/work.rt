@@ -10,6 +10,7 @@ ghost use Rattle.jam_cli.specs.Parts.{asked, inputs_in, AreKept, WorkedOn};
 
 use crate::accumulate::accumulate;
 use crate::asm::asm;
+use crate::disasm::disasm;
 use crate::hash::hash;
 use crate::number::{ArgumentBytes, LineCount, Small};
 use crate::reads::File;
@@ -98,6 +99,15 @@ fn asm_on<'a>(
     asm(alloc, found.as_str(), out)
 }
 
+fn disasm_on<'a>(alloc: Global, blob: &'a str, files: &[File<'_>]) -> Result<Work<'a>, Refusal>
+    requires kinds { kinds (inputs_in files.now) ≡ kind.Program ∷ [] }
+    requires kept { AreKept files.now }
+    ensures { WorkedOn (command the.Disasm (blob.now, tt)) files.now result }
+{
+    let (Whole(program), ()) = Contents::decode_all(alloc, files)?;
+    Ok(disasm(alloc, &program)?)
+}
+
 fn accumulate_on<'a>(
     alloc: Global,
     state: &'a str,
@@ -137,6 +147,7 @@ pub fn work_of<'a>(
         Command::Show(state) => show_on(alloc, *state, files),
         Command::Hash(file) => hash_on(alloc, *file, files),
         Command::Asm { text, out } => asm_on(alloc, *text, *out, files),
+        Command::Disasm(blob) => disasm_on(alloc, *blob, files),
         Command::Accumulate {
             state,
             batch,

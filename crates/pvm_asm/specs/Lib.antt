@@ -6,3 +6,4 @@ pub mod Labels
 pub mod Image
 pub mod Assembly
 pub mod Refusal
+pub mod Alone

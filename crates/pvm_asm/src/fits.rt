@@ -84,7 +84,8 @@ fn target_fits(place: u64, target: &Target<'_>) -> bool
     }
 }
 
-fn instruction_fits(place: u64, instruction: &Instruction<'_>) -> bool
+/// Whether all numbers of an instruction at a place fit.
+pub fn instruction_fits(place: u64, instruction: &Instruction<'_>) -> bool
     ensures { result ≡ instruction_fits place instruction.now }
 {
     x_fits(form_of(instruction.op), &instruction.x)
@@ -191,7 +192,8 @@ impl Survey {
     }
 }
 
-fn is_known(labels: &Labels, target: &Target<'_>) -> bool
+/// Whether the label that a target names is there.
+pub fn is_known(labels: &Labels, target: &Target<'_>) -> bool
     ensures { result ≡ is_known labels.now target.now }
 {
     match target {

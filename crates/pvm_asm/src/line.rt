@@ -113,7 +113,8 @@ fn sorted_statement(sort: Sort, operands: Operands<'_>) -> Statement<'_>
     }
 }
 
-fn instruction_statement(op: Op, operands: Operands<'_>) -> Statement<'_>
+/// An instruction with these operands.
+pub fn instruction_statement(op: Op, operands: Operands<'_>) -> Statement<'_>
     ensures { result ≡ instruction_statement op operands.entry }
 {
     match with_operands(form_operands(form_of(op)), operands, bare(op)) {

@@ -192,6 +192,30 @@ fn hash_prints_the_digests_of_the_worked_examples(rt: HostRuntime) -> Result<(),
     Ok(())
 }
 
+#[test]
+fn disasm_prints_the_listings_of_the_worked_examples(rt: HostRuntime) -> Result<(), Fail> {
+    let alloc = rt.alloc();
+    let rows: [(&[u8], &str); 3] = [
+        (
+            &FIRST_RUN,
+            ".raw\n.width 0\nload_imm r7, 42\nload_imm r0, -65536\njump_ind r0, 0\n",
+        ),
+        (
+            &[0, 0, 3, 0x0a, 7, 0, 1],
+            ".raw\n.width 0\n.unit 0a0700 # ecalli\n",
+        ),
+        (&[0, 0, 2, 0, 0, 2], ".raw\n.width 0\n.lead 00\ntrap\n"),
+    ];
+    for (blob, listing) in rows {
+        let mut vault = SureVault::new(alloc, one_file(alloc, blob)?);
+        let mut sink = SureSink::new(alloc);
+        let words = words_of(alloc, &["disasm", "blob"])?;
+        assert_eq!(rt; jam(alloc, &words, &mut vault, &mut sink), Status::Done);
+        assert!(rt; sink.bytes() == listing.as_bytes(), "{listing}");
+    }
+    Ok(())
+}
+
 fn refused(place: u64) -> Status {
     Status::Refused { word: 1, place }
 }
@@ -201,7 +225,7 @@ fn other_words_and_other_blobs_are_refused(rt: HostRuntime) -> Result<(), Fail> 
     let alloc = rt.alloc();
     let run: &[&str] = &["run", "blob", "7"];
     let trace: &[&str] = &["trace", "blob", "4294967295", "7", "aAfF", "1000"];
-    let rows: [(&[&str], &[u8], Status); 26] = [
+    let rows: [(&[&str], &[u8], Status); 29] = [
         (&[], &FIRST_RUN, Status::BadWords),
         (&["run", "blob"], &FIRST_RUN, Status::BadWords),
         (&["run", "blob", "7", "7"], &FIRST_RUN, Status::BadWords),
@@ -218,6 +242,9 @@ fn other_words_and_other_blobs_are_refused(rt: HostRuntime) -> Result<(), Fail> 
         (&["show"], &FIRST_RUN, Status::BadWords),
         (&["show", "blob", "blob"], &FIRST_RUN, Status::BadWords),
         (&["asm", "blob", "blob"], &FIRST_RUN, Status::BadWords),
+        (&["disasm"], &FIRST_RUN, Status::BadWords),
+        (&["disasm", "blob", "blob"], &FIRST_RUN, Status::BadWords),
+        (&["disasm", "blob"], &[0, 9, 0], refused(1)),
         (
             &["trace", "blob", "0", "7", "-"],
             &FIRST_RUN,

@@ -1,0 +1,12 @@
+pub mod Lists
+pub mod Digits
+pub mod Plain
+pub mod Splits
+pub mod Said
+pub mod Moves
+pub mod Spelled
+pub mod Units
+pub mod Named
+pub mod Texts
+pub mod Walks
+pub mod Law
