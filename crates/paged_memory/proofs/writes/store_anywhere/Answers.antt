@@ -6,7 +6,7 @@ use Rattle.paged_memory.specs.PageMap.{put_bytes}
 use Rattle.paged_memory.specs.Seen.{seen}
 use Rattle.byte_numbers.specs.NumberLaws.{low_bytes}
 use Rattle.paged_memory.proofs.Writing.{no_wrap, allowed_each}
-use Rattle.paged_memory.proofs.writes.store.Goals as goal
+use Rattle.paged_memory.proofs.writes.store_anywhere.Goals as goal
 
 pub put-requires-clause-room : goal.put-requires-clause-room
 put-requires-clause-room c =
