@@ -2,7 +2,8 @@
 use Rattle.std.specs.Prelude.{◌≡◌, ℕ, ◌+◌, ◌*◌, ◌/◌, ◌%◌, ◌^◌, ◌<◌, ◌≤◌, true, false, List, length, get_or}
 use Rattle.byte_numbers.specs.Numbers.{little_number, numbers, AreBytes}
 use Rattle.jam_codec.specs.Spelling.{binary_digits, bytes_for}
-use Rattle.blob_decode.specs.Program.{Program, mask_bit}
+use Rattle.blob_decode.specs.declared.place.Place.{Place}
+use Rattle.blob_decode.specs.Program.{Program, mask_bit, op_at, skip, is_start}
 
 -- how many jumps and their width, and the bytes that spell the jumps, the code and the mask
 abbrev pub program_of : ℕ → ℕ → List ℕ → List ℕ → List ℕ → Program
@@ -50,3 +51,14 @@ pub record FirstSet (bits n : ℕ) : Type 0 where
 pub record LastSet (bits n : ℕ) : Type 0 where
   pub one : bits / 2 ^ n % 2 ≡ 1
   pub above : (j : ℕ) → n < j → bits / 2 ^ j ≡ 0
+
+-- this is what stands at a place
+pub record IsKept (p : Program) (place : ℕ) (kept : Place) : Type 0 where
+  pub op : kept.op ≡ op_at p place
+  pub skip : kept.skip ≡ skip p place
+  pub short : kept.skip ≤ 24
+  pub starts : kept.starts ≡ is_start p place
+
+-- so it is with each of a list, by its place
+abbrev pub AreKept : Program → List Place → Type 0
+AreKept p places = (place : ℕ) (other : Place) → place < length places → IsKept p place (get_or places place other)

@@ -3,6 +3,7 @@
 
 mod laws;
 mod parts;
+mod place;
 mod program;
 
 pub use laws::{blob_laws, skip_law, start_law};

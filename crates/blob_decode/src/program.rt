@@ -1,5 +1,5 @@
 // A program in memory.
-ghost use Rattle.std.specs.Prelude.{◌≡◌, ◌<◌, ◌≤◌, ◌+◌, ◌-◌, ◌/◌, ◌%◌, ◌^◌, ◌==◌, ℕ, true, false, None, if◌then◌else◌, IfSome, IfNone, MatchOption, IfOk, IfErr, IsErrOf, length, take, drop, slice_get};
+ghost use Rattle.std.specs.Prelude.{◌≡◌, ◌<◌, ◌≤◌, ◌+◌, ◌-◌, ◌/◌, ◌%◌, ◌^◌, ◌==◌, ℕ, true, false, None, if◌then◌else◌, IfSome, IfNone, MatchOption, IfOk, IfErr, IsErrOf, OnOk, length, take, drop, slice_get};
 ghost use Rattle.byte_numbers.specs.Numbers.{little_number};
 ghost use Rattle.jam_codec.specs.Spelling.{bytes_for};
 ghost use Rattle.jam_codec.specs.Format.{Spells};
@@ -9,11 +9,12 @@ ghost use Rattle.pvm_isa.specs.Opcodes.{op_numbered};
 ghost use Rattle.pvm_isa.specs.Arguments.{IsWindow};
 ghost use Rattle.blob_decode.specs.Refusal.{IsPlaced};
 ghost use Rattle.blob_decode.specs.Fetched.{IsFetched};
-ghost use Rattle.blob_decode.specs.Kept.{FirstSet, LastSet, AreMarks, IsNearest, NoneNear};
+ghost use Rattle.blob_decode.specs.Kept.{FirstSet, LastSet, AreMarks, IsNearest, NoneNear, IsKept, AreKept};
 ghost use Rattle.blob_decode.specs.Program.{program_blob, mask_bit, op_begins, op_at, gap, skip, next, is_start, ends_block, ends_before, some_below};
 ghost use Rattle.pvm_isa.specs.Arguments.{code_byte};
 
 use crate::parts::{parts_of, push_lists};
+use crate::place::Place;
 use jam_codec::{Malformed, number_of, push_fixed, push_natural};
 use pvm_isa::{Op, code_window, is_terminator, op_of, op_or_trap, whole_window};
 use std::alloc::{AllocError, Global};
@@ -56,7 +57,9 @@ pub struct Program {
     mask: Vec<u8>,
     // The mask with the bit after its last one set, and more bytes, so that a window begins at each place.
     marks: Vec<u8>,
-    // How many places have eight bytes of code from them on.
+    // What stands at each place, or at the first ones.
+    places: Vec<Place>,
+    // How many places are kept and have eight bytes of code from them on.
     windows: u64,
 }
 
@@ -77,14 +80,14 @@ pub struct Fetched {
 
 impl Model for Program {
     ghost use Rattle.blob_decode.specs.Program.{Program};
-    ghost use Rattle.std.specs.Prelude.{◌≡◌, ◌-◌, length};
-    ghost use Rattle.blob_decode.specs.Kept.{program_of, AreParts, AreMarks};
+    ghost use Rattle.std.specs.Prelude.{◌≤◌, ◌-◌, length};
+    ghost use Rattle.blob_decode.specs.Kept.{program_of, AreParts, AreMarks, AreKept};
 
     ghost Value = { Program };
 
     ghost view = { λ p. program_of p.count p.width p.table.items p.code.items p.mask.items };
 
-    ghost invariant = { λ p. AreParts p.count p.width p.table.items p.code.items p.mask.items × AreMarks (length p.code.items) p.mask.items p.marks.items × (p.windows ≡ length p.code.items - 7) };
+    ghost invariant = { λ p. AreParts p.count p.width p.table.items p.code.items p.mask.items × AreMarks (length p.code.items) p.mask.items p.marks.items × (p.windows ≤ length p.code.items - 7) × (p.windows ≤ length p.places.items) × AreKept (program_of p.count p.width p.table.items p.code.items p.mask.items) p.places.items };
 }
 
 // Four bytes of a mask as a number.
@@ -172,6 +175,21 @@ impl Program {
         ensures refused { (p : _) → Spells program_blob p bytes.now → (place : ℕ) → IsErrOf result (ProgramRefusal.NotProgram place) → ⊥ }
         ensures place { IfErr result (IsPlaced bytes.now) }
     {
+        match Program::parsed(alloc, bytes) {
+            Ok(mut program) => {
+                program.keep_places()?;
+                Ok(program)
+            }
+            Err(refusal) => Err(refusal),
+        }
+    }
+
+    // The same, with nothing kept of the places.
+    fn parsed(alloc: Global, bytes: &[u8]) -> Result<Program, ProgramRefusal>
+        ensures found { IfOk result (λ p. Spells program_blob p bytes.now) }
+        ensures refused { (p : _) → Spells program_blob p bytes.now → (place : ℕ) → IsErrOf result (ProgramRefusal.NotProgram place) → ⊥ }
+        ensures place { IfErr result (IsPlaced bytes.now) }
+    {
         let parts = parts_of(bytes)?;
         let table = Vec::from_slice(alloc, parts.table)?;
         let code = Vec::from_slice(alloc, parts.code)?;
@@ -184,8 +202,43 @@ impl Program {
             code,
             mask,
             marks,
-            windows: (parts.code.len() as u64).saturating_sub(7),
+            places: Vec::new(alloc),
+            windows: 0,
         })
+    }
+
+    // What stands at a place.
+    fn place_at(&self, place: u64) -> Place
+        ensures { IsKept self.now place result }
+    {
+        Place {
+            op: self.op_at(place),
+            skip: self.skip(place),
+            starts: self.begins_block(place),
+        }
+    }
+
+    // What stands at each place.
+    fn all_places(&self) -> Result<Vec<Place>, AllocError>
+        ensures all { IfOk result (λ places. length places.items ≡ length self.now.code) }
+        ensures kept { IfOk result (λ places. AreKept self.now places.items) }
+    {
+        let size = self.code().len();
+        let mut places = Vec::with_capacity(*self.code.allocator(), size)?;
+        'each: for place in 0..size {
+            places.push(self.place_at(place as u64))?;
+        }
+        Ok(places)
+    }
+
+    // Keeps what stands at each place.
+    fn keep_places(&mut self) -> Result<(), AllocError>
+        ensures { self.new ≡ self.old }
+    {
+        let places = self.all_places()?;
+        self.windows = (places.len() as u64).saturating_sub(7);
+        self.places = places;
+        Ok(())
     }
 
     /// The bytes of the blob that spells the program.
@@ -307,16 +360,35 @@ impl Program {
         Some(self.found(pc, code_window(code, pc)))
     }
 
-    /// What stands at the place, by one look at the mask and one at the code; none past the code.
-    #[inline]
+    // What is kept of a place, where the code has eight bytes from there on.
+    #[inline(always)]
+    fn kept(&self, place: u64) -> Option<Place>
+        ensures kept { IfSome result (IsKept self.now place) }
+        ensures within { IfSome result (λ _. place + 8 ≤ length self.now.code) }
+    {
+        if place < self.windows {
+            return Some(self.places[place as usize]);
+        }
+        None
+    }
+
+    /// What stands at the place, by one look at what is kept of it and one at the code; none past the code.
+    #[inline(always)]
     pub fn fetch(&self, pc: u64) -> Option<Fetched>
         ensures past { IfNone result (length self.now.code ≤ pc) }
         ensures found { IfSome result (IsFetched self.now pc) }
     {
-        if pc < self.windows {
-            return Some(self.found(pc, whole_window(self.code(), pc)));
+        let code = self.code();
+        match self.kept(pc) {
+            Some(place) => Some(Fetched {
+                op: place.op,
+                pc,
+                skip: place.skip,
+                next: pc + 1 + u64::from(place.skip),
+                bytes: whole_window(code, pc),
+            }),
+            None => self.fetch_near_end(pc),
         }
-        self.fetch_near_end(pc)
     }
 
     // The nearest place before this one at which an instruction begins, at most 25 before.
@@ -375,16 +447,27 @@ impl Program {
         }
     }
 
-    /// Whether a block begins at the place, so that a jump may lead there.
-    #[inline]
+    // Whether a block begins at the place, by the mask and the instruction before.
+    #[inline(never)]
     #[tactic(auto, unfolding(crate::specs::Program::is_start))]
-    pub fn is_start(&self, place: u64) -> bool
+    fn begins_block(&self, place: u64) -> bool
         ensures { result ≡ is_start self.now place }
     {
         if self.opcode(place).is_none() {
             return false;
         }
         place == 0 || self.follows_end(place)
+    }
+
+    /// Whether a block begins at the place, so that a jump may lead there.
+    #[inline(always)]
+    pub fn is_start(&self, place: u64) -> bool
+        ensures { result ≡ is_start self.now place }
+    {
+        match self.kept(place) {
+            Some(kept) => kept.starts,
+            None => self.begins_block(place),
+        }
     }
 
     /// The target in the jump table's entry k; none past its end.

@@ -4,8 +4,8 @@ use Rattle.std.proofs.lemmas.Bool.{cases_eq}
 use Rattle.std.proofs.lemmas.List.{length-replicate, get_or-replicate, length-take-le, get_or-take, get_or-drop, ext_get_or}
 use Rattle.std.proofs.lemmas.List.FromFn.{get_or-map-range_with_len, fill_by_all, length-map-range_with_len}
 use Rattle.slab.specs.Slab.{Slab, get}
-use Rattle.page_frames.specs.PageBytes.{all_zero, byte_of, overwritten, IsMarked, AreMarked}
-use Rattle.page_frames.specs.FrameTable.{zero_page, key_at, bytes_at_key, bytes_or_zero, page_bytes, byte_at, bytes_below, IsSound, PageChanged, SamePages}
+use Rattle.page_frames.specs.PageBytes.{all_zero, byte_of, overwritten, IsMarked}
+use Rattle.page_frames.specs.FrameTable.{key_at, bytes_at_key, bytes_or_zero, page_bytes, byte_at, bytes_below, IsSound, PageChanged, SamePages}
 use Rattle.page_frames.proofs.Zeros.{zero_page_length, zero_byte, no_key}
 use Rattle.page_frames.specs.WrittenLaws.{length-overwritten, byte_before, byte_in_new, byte_behind}
 

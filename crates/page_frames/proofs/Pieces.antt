@@ -1,15 +1,14 @@
 -- What is read and written piece by piece.
-use Rattle.std.proofs.Common.{◌≡◌, ◌≢◌, ℕ, zero, suc, ◌+◌, ◌-◌, ◌*◌, ◌/◌, ◌%◌, ◌<◌, ◌≤◌, ◌^◌, List, [], ◌++◌, Option, Some, None, length, take, drop, replicate, refl, sym, ap, ◌∙◌, arith, length-drop, append_assoc, append-nil}
+use Rattle.std.proofs.Common.{◌≡◌, ℕ, ◌+◌, ◌-◌, ◌*◌, ◌/◌, ◌%◌, ◌<◌, ◌≤◌, ◌^◌, List, ◌++◌, Option, length, take, drop, replicate, sym, ap, ◌∙◌, arith, length-drop, append_assoc, append-nil}
 use Rattle.std.proofs.Math.Seq.{take-add}
 use Rattle.std.proofs.lemmas.Nat.{div-add-mod'}
 use Rattle.std.proofs.lemmas.List.{length-take-le, length-replicate, replicate-append-replicate, take_at, drop_at, drop-drop, drop_all}
 use Rattle.slab.specs.Slab.{Slab}
 use borrow.Rule.Slice.PartMut.{put_mid}
 use Rattle.page_frames.specs.PageBytes.{overwritten, zeroed, AreMarked}
-use Rattle.page_frames.specs.FrameTable.{zero_page, key_at, bytes_below, page_bytes, IsSound, PageChanged, HaveFrames, AreFramed}
-use Rattle.page_frames.proofs.Zeros.{zero_page_length}
+use Rattle.page_frames.specs.FrameTable.{zero_page, bytes_below, page_bytes, IsSound, PageChanged, HaveFrames, AreFramed}
 use Rattle.page_frames.specs.WrittenLaws.{written_on, nothing_written}
-use Rattle.page_frames.proofs.Bytes.{below_written, part_of_page, marked, length-below, frame_size}
+use Rattle.page_frames.proofs.Bytes.{below_written, part_of_page, marked, frame_size}
 
 pub split_place : (a : ℕ) → a / 4096 * 4096 + a % 4096 ≡ a
 split_place a = div-add-mod' a 4096

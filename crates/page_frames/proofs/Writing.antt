@@ -1,9 +1,9 @@
 -- Changes of one frame.
-use Rattle.std.proofs.Common.{◌≡◌, ◌≢◌, inl, inr, ℕ, ◌+◌, ◌≤◌, List, Option, Some, None, length, refl, sym, ap, subst, ◌∙◌, arith}
+use Rattle.std.proofs.Common.{◌≡◌, ◌≢◌, inl, inr, ℕ, ◌+◌, ◌≤◌, List, Option, Some, None, length, refl, sym, ap, ◌∙◌}
 use Rattle.std.proofs.lemmas.Bool.{cases_eq}
 use Rattle.slab.specs.Slab.{Slab, get}
 use Rattle.page_frames.specs.PageBytes.{overwritten}
-use Rattle.page_frames.specs.FrameTable.{key_at, bytes_at_key, bytes_or_zero, IsSound, PageChanged, SamePages, HaveFrames}
+use Rattle.page_frames.specs.FrameTable.{key_at, bytes_at_key, bytes_or_zero, IsSound, PageChanged, SamePages}
 use Rattle.page_frames.specs.WrittenLaws.{overwritten_length}
 
 found : {A : Type 0} (o : Option A) → o ≢ None → (x : A) × (o ≡ Some x)

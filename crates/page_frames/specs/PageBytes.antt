@@ -1,5 +1,5 @@
 -- The bytes at the 2 ^ 32 addresses (Gray Paper 0.7.0, appendix A), as a list by address.
-use Rattle.std.specs.Prelude.{◌≡◌, ◌≢◌, ℕ, ◌+◌, ◌*◌, ◌/◌, ◌<◌, ◌≤◌, ◌^◌, List, ◌++◌, length, take, drop, replicate, slice_index_or}
+use Rattle.std.specs.Prelude.{◌≢◌, ℕ, ◌+◌, ◌*◌, ◌/◌, ◌<◌, ◌≤◌, ◌^◌, List, ◌++◌, length, take, drop, replicate, slice_index_or}
 
 -- memory that was never written
 unfoldable pub all_zero : List ℕ

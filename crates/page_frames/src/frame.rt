@@ -38,7 +38,7 @@ impl Frame {
     }
 
     /// Reads bytes from a place on.
-    #[inline]
+    #[inline(always)]
     pub fn read(&self, place: usize, buf: &mut [u8])
         requires { place + length buf.old ≤ 4096 }
         ensures { buf.new ≡ take (length buf.old) (drop place self.now) }
@@ -48,7 +48,7 @@ impl Frame {
     }
 
     /// Writes bytes from a place on.
-    #[inline]
+    #[inline(always)]
     pub fn write(&mut self, place: usize, bytes: &[u8])
         requires { place + length bytes.now ≤ 4096 }
         ensures { self.new ≡ overwritten self.old place bytes.now }

@@ -1,5 +1,5 @@
 // The bytes of all pages as callers see them.
-ghost use Rattle.std.specs.Prelude.{◌≡◌, ◌+◌, ◌≤◌, ◌^◌, take, drop, OnOk, OnErr, IsOk, length};
+ghost use Rattle.std.specs.Prelude.{◌≡◌, ◌+◌, ◌%◌, ◌≤◌, ◌^◌, true, false, take, drop, OnOk, OnErr, IsOk, length};
 ghost use Rattle.page_frames.specs.PageBytes.{all_zero, byte_of, overwritten, zeroed, AreMarked};
 
 use crate::frame::Frame;
@@ -56,6 +56,25 @@ impl Frames {
         ensures { buf.new ≡ take (length buf.old) (drop place self.now) }
     {
         ranges::read(&self.table, &self.frames, place, buf)
+    }
+
+    /// Reads bytes that stand in one page.
+    #[inline(always)]
+    pub fn read_in_page(&self, place: u32, buf: &mut [u8])
+        requires { place % 4096 + length buf.old ≤ 4096 }
+        ensures { buf.new ≡ take (length buf.old) (drop place self.now) }
+    {
+        ranges::read_in_page(&self.table, &self.frames, place, buf)
+    }
+
+    /// Writes bytes that stand in one page, where it has its frame; else nothing, and the answer is false.
+    #[inline(always)]
+    pub fn write_in_frame(&mut self, place: u32, bytes: &[u8]) -> bool
+        requires { place % 4096 + length bytes.now ≤ 4096 }
+        ensures done { result ≡ true → self.new ≡ overwritten self.old place bytes.now }
+        ensures same { result ≡ false → self.new ≡ self.old }
+    {
+        ranges::write_in_frame(&self.table, &mut self.frames, place, bytes)
     }
 
     /// Writes bytes from a place on. Room for all of them is made before the first is written.

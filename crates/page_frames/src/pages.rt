@@ -25,7 +25,7 @@ pub fn byte(table: &[Level], frames: &Slab<Frame>, page: u32, place: usize) -> u
 }
 
 /// Bytes of a page from a place on.
-#[inline]
+#[inline(always)]
 pub fn read(table: &[Level], frames: &Slab<Frame>, page: u32, place: usize, buf: &mut [u8])
     requires { place + length buf.old ≤ 4096 }
     ensures { buf.new ≡ take (length buf.old) (drop place (page_bytes table.now frames.now page)) }
@@ -40,7 +40,7 @@ pub fn read(table: &[Level], frames: &Slab<Frame>, page: u32, place: usize, buf:
 }
 
 // Writes bytes into a frame.
-#[inline]
+#[inline(always)]
 fn write_frame(frames: &mut Slab<Frame>, key: usize, place: usize, bytes: &[u8])
     requires { place + length bytes.now ≤ 4096 }
     ensures at { (old : List ℕ) → get frames.old key ≡ Some old → get frames.new key ≡ Some (overwritten old place bytes.now) }
@@ -54,7 +54,7 @@ fn write_frame(frames: &mut Slab<Frame>, key: usize, place: usize, bytes: &[u8])
 
 /// Writes bytes of a page that has a frame.
 #[tactic(auto, using(crate::specs::WrittenLaws::overwritten_length))]
-#[inline]
+#[inline(always)]
 pub fn write(table: &[Level], frames: &mut Slab<Frame>, page: u32, place: usize, bytes: &[u8])
     requires sound { IsSound table.now frames.old }
     requires there { key_at table.now page ≢ None }

@@ -1,11 +1,11 @@
 // The bytes of ranges over several pages.
-ghost use Rattle.std.specs.Prelude.{◌≡◌, ◌+◌, ◌<◌, ◌≤◌, ◌^◌, OnOk, OnErr, IsOk, length, take, drop};
+ghost use Rattle.std.specs.Prelude.{◌≡◌, ◌+◌, ◌%◌, ◌<◌, ◌≤◌, ◌^◌, true, false, OnOk, OnErr, IsOk, length, take, drop};
 ghost use Rattle.page_frames.specs.PageBytes.{overwritten, zeroed, AreMarked};
 ghost use Rattle.page_frames.specs.FrameTable.{bytes_below, IsSound, SamePages, HaveFrames, AreFramed};
 
 use crate::frame::Frame;
 use crate::pages;
-use crate::table::Level;
+use crate::table::{Level, key_of};
 use slab::Slab;
 use std::alloc::AllocError;
 
@@ -74,6 +74,33 @@ pub fn write(
     make(table, frames, first, last - first + 1)?;
     write_framed(table, frames, place, bytes);
     Ok(())
+}
+
+/// Writes bytes that stand in one page, where it has its frame; else nothing.
+#[inline(always)]
+pub fn write_in_frame(table: &[Level], frames: &mut Slab<Frame>, place: u32, bytes: &[u8]) -> bool
+    requires sound { IsSound table.now frames.old }
+    requires room { place % 4096 + length bytes.now ≤ 4096 }
+    ensures sound { IsSound table.now frames.new }
+    ensures done { result ≡ true → bytes_below (2 ^ 32) table.now frames.new ≡ overwritten (bytes_below (2 ^ 32) table.now frames.old) place bytes.now }
+    ensures same { result ≡ false → frames.new ≡ frames.old }
+{
+    let page = place / 4096;
+    if key_of(table, page).is_none() {
+        return false;
+    }
+    pages::write(table, frames, page, (place % 4096) as usize, bytes);
+    true
+}
+
+/// Reads bytes that stand in one page.
+#[inline(always)]
+pub fn read_in_page(table: &[Level], frames: &Slab<Frame>, place: u32, buf: &mut [u8])
+    requires sound { IsSound table.now frames.now }
+    requires room { place % 4096 + length buf.old ≤ 4096 }
+    ensures { buf.new ≡ take (length buf.old) (drop place (bytes_below (2 ^ 32) table.now frames.now)) }
+{
+    pages::read(table, frames, place / 4096, (place % 4096) as usize, buf);
 }
 
 /// Reads bytes from a place on.

@@ -48,7 +48,7 @@ impl Level {
         }
     }
 
-    #[inline]
+    #[inline(always)]
     fn get(&self, index: usize) -> Option<usize>
         ensures { result ≡ slice_index_or self.now index None }
     {
@@ -87,7 +87,7 @@ fn reach_level(table: &mut Vec<Level>, top: usize) -> Result<(), AllocError>
 }
 
 /// The key of a page's frame.
-#[inline]
+#[inline(always)]
 pub fn key_of(table: &[Level], page: u32) -> Option<usize>
     ensures { result ≡ key_at table.now page }
 {

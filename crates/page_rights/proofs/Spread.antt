@@ -274,3 +274,20 @@ is_missing (Some x) b e t = let f : not b ≡ false = ap not t in absurd (cc)
 pub not_missing : {A : Type 0} (o : Option A) (b : Bool) → is_some o ≡ not b → b ≡ false → o ≡ None → ⊥
 not_missing None b e f n = let t : not b ≡ true = ap not f in absurd (cc)
 not_missing (Some x) b e f n = absurd (cc)
+
+-- ---- Spans
+
+-- the run at an index, whose pages stand behind so many
+module _ (runs : List Run) (i before : ℕ) (d : Run) (inside : i < length runs) (rest : (k : ℕ) → get_or (spread (drop i runs) ++ none_granted) k may.No ≡ get_or (spread runs ++ none_granted) (before + k) may.No) where
+  pub rest_behind : (k : ℕ) → get_or (spread (drop (i + 1) runs) ++ none_granted) k may.No ≡ get_or (spread runs ++ none_granted) (before + (get_or runs i d).count + k) may.No
+  rest_behind k =
+      let back : (get_or runs i d).count + k - (get_or runs i d).count ≡ k = omega arith in
+      let on : before + ((get_or runs i d).count + k) ≡ before + (get_or runs i d).count + k = omega arith in
+      ap (λ n. get_or (spread (drop (i + 1) runs) ++ none_granted) n may.No) (sym back)
+      ∙ behind_run runs i d ((get_or runs i d).count + k) inside (omega arith)
+      ∙ rest ((get_or runs i d).count + k) ∙ ap (λ n. get_or (spread runs ++ none_granted) n may.No) on
+
+  pub run_at : (page : ℕ) → before ≤ page → page < before + (get_or runs i d).count → get_or (spread runs ++ none_granted) page may.No ≡ (get_or runs i d).rights
+  run_at page low high =
+      let on : before + (page - before) ≡ page = omega arith in
+      ap (λ n. get_or (spread runs ++ none_granted) n may.No) (sym on) ∙ sym (rest (page - before)) ∙ in_run runs i d (page - before) inside (omega arith)

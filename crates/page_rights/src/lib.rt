@@ -6,6 +6,7 @@ mod laws;
 mod parts;
 mod rights;
 mod runs;
+mod span;
 
 pub use laws::range_laws;
 pub use rights::Rights;

@@ -61,7 +61,7 @@ pub fn copy(
 }
 
 /// The rights of a page.
-#[inline]
+#[inline(never)]
 pub fn rights_at(runs: &[Run], page: u32) -> Rights
     ensures { result ≡ slice_index_or (spread runs.now ++ none_granted) page may.No }
 {

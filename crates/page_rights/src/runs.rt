@@ -6,6 +6,7 @@ ghost use Rattle.page_rights.specs.PageRights.{none_granted, right_of_page, page
 use crate::changes::{with_lifted, with_rights};
 use crate::parts::{Run, first_sought, rights_at};
 use crate::rights::{Rights, Sought};
+use crate::span::{NOWHERE, Span, spans_of};
 use std::alloc::{AllocError, Global};
 use std::marker::Model;
 
@@ -13,16 +14,23 @@ use std::marker::Model;
 #[derive(Drop)]
 pub struct Runs {
     runs: Vec<Run>,
+    // A span in each half of the pages, which is looked at first.
+    near: [Span; 2],
 }
 
 impl Model for Runs {
     ghost use Rattle.std.specs.Prelude.{List};
     ghost use Rattle.page_rights.specs.declared.rights.Rights.{Rights};
-    ghost use Rattle.page_rights.specs.RunList.{rights_of_runs};
+    ghost use Rattle.std.specs.Prelude.{◌≡◌, ◌++◌, length};
+    ghost use Rattle.std.specs.List.{All};
+    ghost use Rattle.page_rights.specs.PageRights.{none_granted};
+    ghost use Rattle.page_rights.specs.RunList.{rights_of_runs, spread, IsSpan};
 
     ghost Value = { List Rights };
 
     ghost view = { λ a. rights_of_runs a.runs.items };
+
+    ghost invariant = { λ a. (length a.near ≡ 2) × All (IsSpan (spread a.runs.items ++ none_granted)) a.near };
 }
 
 impl Runs {
@@ -32,15 +40,21 @@ impl Runs {
     {
         Runs {
             runs: Vec::new(alloc),
+            near: [NOWHERE; 2],
         }
     }
 
     /// The rights of a page, by its number.
-    #[inline]
+    #[inline(always)]
     pub fn rights(&self, page: u32) -> Rights
         requires { page < 2 ^ 20 }
         ensures { result ≡ right_of_page self.now page }
     {
+        let number = u64::from(page);
+        let span = &self.near[(page >> 19) as usize];
+        if span.first <= number && number - span.first < span.count {
+            return span.rights;
+        }
         rights_at(&self.runs, page)
     }
 
@@ -65,7 +79,9 @@ impl Runs {
         if first_sought(&self.runs, first, count, Sought::Other(rights)).is_none() {
             return Ok(());
         }
-        self.runs = with_rights(*self.runs.allocator(), &self.runs, first, count, rights)?;
+        let runs = with_rights(*self.runs.allocator(), &self.runs, first, count, rights)?;
+        self.near = spans_of(&runs);
+        self.runs = runs;
         Ok(())
     }
 
@@ -82,7 +98,9 @@ impl Runs {
         if first_sought(&self.runs, first, count, Sought::Below(Rights::Read)).is_none() {
             return Ok(());
         }
-        self.runs = with_lifted(*self.runs.allocator(), &self.runs, first, count)?;
+        let runs = with_lifted(*self.runs.allocator(), &self.runs, first, count)?;
+        self.near = spans_of(&runs);
+        self.runs = runs;
         Ok(())
     }
 }

@@ -174,3 +174,7 @@ on_result (Err e) a b f g = g b
 
 pub whole_by : (p : Pages) (rs : List Rights) (bs : List ℕ) → rs ≡ p.rights → bs ≡ p.bytes → IsWhole p → IsWhole (record { rights = rs; bytes = bs })
 whole_by p rs bs e f w = subst (λ r. IsWhole (record { rights = r; bytes = bs })) (sym e) (subst (λ b. IsWhole (record { rights = p.rights; bytes = b })) (sym f) w)
+
+pub on_either : (b : Bool) {A B C : Type 0} → (b ≡ true → A) → (b ≡ false → B) → (A → C) → (B → C) → C
+on_either true a b f g = f (a refl)
+on_either false a b f g = g (b refl)

@@ -67,7 +67,7 @@ impl Memory {
     /// # Errors
     /// Low where some byte below 65,536 may not be read; else Fault with the start of the lowest
     /// page that holds a byte which may not be read.
-    #[inline]
+    #[inline(always)]
     pub fn load(&self, addr: u32, width: u8) -> Result<u64, Access>
         requires { IsTrue (is_width width) }
         ensures value { result ≡ loaded self.now addr width }
@@ -81,7 +81,7 @@ impl Memory {
     /// # Errors
     /// Access, by the rule of `load` for bytes that may not be written; NoMemory for want of memory.
     /// No byte has changed then.
-    #[inline]
+    #[inline(always)]
     pub fn store(&mut self, addr: u32, width: u8, value: u64) -> Result<(), StoreRefusal>
         requires { IsTrue (is_width width) }
         ensures ok { OnOk result (self.new ≡ put_bytes self.old addr (little_endian width value)) }

@@ -6,7 +6,7 @@ ghost use Rattle.paged_memory.specs.PageMap.{is_width};
 use byteorder::{ByteOrder, LittleEndian};
 
 /// The number that `width` bytes spell, the lowest first.
-#[inline]
+#[inline(always)]
 pub fn number_of(bytes: &[u8], width: u8) -> u64
     requires size { IsTrue (is_width width) }
     requires room { length bytes.now ≡ width }

@@ -1,5 +1,5 @@
 // What is read of the pages.
-ghost use Rattle.std.specs.Prelude.{◌≡◌, ◌+◌, ◌≤◌, ◌^◌, IsTrue, length, map};
+ghost use Rattle.std.specs.Prelude.{◌≡◌, ◌+◌, ◌%◌, ◌≤◌, ◌^◌, IsTrue, true, None, length, map};
 ghost use Rattle.byte_numbers.specs.Numbers.{little_number};
 ghost use Rattle.paged_memory.specs.PageMap.{is_width, rights, byte, addresses, lower, access_at, refusal, loaded, accessible, all_have, bytes_from};
 ghost use Rattle.paged_memory.specs.Seen.{seen, IsWhole};
@@ -64,13 +64,23 @@ fn refusal_anywhere(held: &Pages, addr: u32, width: u8, need: Rights) -> Option<
     }
 }
 
-/// Why an access of `width` bytes is refused. One that stands in a page which has the right is not.
+/// Whether an access of `width` bytes stands in one page, and the page has the right. It is not refused then.
+#[inline(always)]
+pub fn is_within(held: &Pages, addr: u32, width: u8, need: Rights) -> bool
+    requires { IsWhole held.now }
+    ensures page { result ≡ true → addr % 4096 + width ≤ 4096 }
+    ensures allowed { result ≡ true → refusal (seen held.now) need addr width ≡ None }
+{
+    addr % PAGE + u32::from(width) <= PAGE && rights_of(held, addr / PAGE).reaches(need)
+}
+
+/// Why an access of `width` bytes is refused.
 #[inline]
 pub fn refusal(held: &Pages, addr: u32, width: u8, need: Rights) -> Option<Access>
     requires { IsWhole held.now }
     ensures { result ≡ refusal (seen held.now) need addr width }
 {
-    if addr % PAGE + u32::from(width) <= PAGE && rights_of(held, addr / PAGE).reaches(need) {
+    if is_within(held, addr, width, need) {
         return None;
     }
     refusal_anywhere(held, addr, width, need)
@@ -90,8 +100,37 @@ fn number_at(held: &Pages, addr: u32, width: u8) -> u64
     number_of(part, width)
 }
 
-#[inline]
+// The number of bytes that stand in one page.
+#[inline(always)]
+fn number_in_page(held: &Pages, addr: u32, width: u8) -> u64
+    requires size { IsTrue (is_width width) }
+    requires page { addr % 4096 + width ≤ 4096 }
+    requires whole { IsWhole held.now }
+    ensures { result ≡ little_number (map (byte (seen held.now)) (addresses addr width)) }
+{
+    let mut bytes = [0u8; 8];
+    let part = &mut bytes[..usize::from(width)];
+    held.bytes.read_in_page(addr, part);
+    number_of(part, width)
+}
+
+/// The number of the bytes at an address. The common load stands in one page.
+#[inline(always)]
 pub fn load(held: &Pages, addr: u32, width: u8) -> Result<u64, Access>
+    requires size { IsTrue (is_width width) }
+    requires whole { IsWhole held.now }
+    ensures { result ≡ loaded (seen held.now) addr width }
+{
+    if is_within(held, addr, width, Rights::Read) {
+        return Ok(number_in_page(held, addr, width));
+    }
+    load_anywhere(held, addr, width)
+}
+
+// The same of any bytes.
+#[cold]
+#[inline(never)]
+fn load_anywhere(held: &Pages, addr: u32, width: u8) -> Result<u64, Access>
     requires size { IsTrue (is_width width) }
     requires whole { IsWhole held.now }
     ensures { result ≡ loaded (seen held.now) addr width }

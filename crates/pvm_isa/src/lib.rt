@@ -15,11 +15,13 @@ pub use arguments::{
     three_registers, two_immediates, two_registers, two_registers_and_immediate,
     two_registers_and_offset, two_registers_and_two_immediates,
 };
+pub use bytes::at_distance;
 pub use form::Form;
 pub use laws::opcode_laws;
 pub use op::Op;
 pub use opcodes::{form_of, is_terminator, name_of, number_of, op_named, op_of, op_or_trap};
 pub use windows::{
-    code_window, register_and_immediate_in, register_immediate_and_offset_in, three_registers_in,
-    two_registers_and_immediate_in, two_registers_and_offset_in, two_registers_in, whole_window,
+    code_window, immediate_before_offset_in, register_and_immediate_in,
+    register_immediate_and_offset_in, three_registers_in, two_registers_and_immediate_in,
+    two_registers_and_offset_in, two_registers_in, whole_window,
 };

@@ -93,6 +93,14 @@ pub fn register_and_immediate_in(bytes: u64, skip: u8) -> Args
     }
 }
 
+/// The immediate X of an instruction of a register, an immediate and an offset, with these first eight bytes.
+#[inline(always)]
+pub fn immediate_before_offset_in(bytes: u64) -> u64
+    ensures { (code : List ℕ) (pc skip : ℕ) → IsWindow code pc bytes → result ≡ (arguments F8 code pc skip).x }
+{
+    immediate_at(bytes, 2, first_length(second(bytes) / 16))
+}
+
 /// A register A, an immediate X and an offset to a target, of the instruction at `pc` with these first eight bytes.
 #[inline]
 #[tactic(auto, unfolding(crate::specs::Arguments::arguments))]

@@ -1,11 +1,11 @@
 -- What a store does, and what the machine does at a place past the code.
 use Rattle.std.proofs.lemmas.Bool.{cases_lt}
-use Rattle.std.proofs.Common.{◌≡◌, ℕ, ◌<◌, ◌≤◌, inl, inr, false, ◌&&◌, length, arith, ap, ◌∙◌, refl, Option, Some, None, Result, Ok, Err}
+use Rattle.std.proofs.Common.{◌≡◌, ℕ, ◌<◌, ◌≤◌, inl, inr, Bool, true, false, ◌&&◌, length, arith, ap, ◌∙◌, refl, Option, Some, None, Result, Ok, Err}
 use Rattle.std.specs.Prelude.{◌↔◌, nat_lt, if◌then◌else◌, is_some, unwrap_or}
 use Rattle.std.proofs.lemmas.Bool.Decides.{nat_tests}
 use Rattle.pvm_isa.specs.declared.op.Op.TheVariants.{Trap, Ecalli}
 use Rattle.pvm_isa.specs.Opcodes.{op_numbered}
-use Rattle.blob_decode.specs.Program.{Program, mask_bit, op_at, next, skip}
+use Rattle.blob_decode.specs.Program.{Program, mask_bit, op_at, next, skip, jump_to}
 use Rattle.pvm_isa.specs.Arguments.{code_byte}
 use Rattle.page_rights.specs.declared.rights.Rights.TheVariants as may
 use Rattle.paged_memory.specs.declared.access.Access.{Access}
@@ -19,7 +19,7 @@ use Rattle.pvm_isa.specs.declared.form.Form.{Form}
 use Rattle.pvm_isa.specs.declared.op.Op.{Op}
 use Rattle.pvm_isa.specs.Opcodes.{form_of}
 use Rattle.pvm_isa.specs.Arguments.{arguments}
-use Rattle.pvm_step.specs.Effect.{MachineState, Act, Stores, line, outcome, after, effect, goes, stops, stores, exit_of}
+use Rattle.pvm_step.specs.Effect.{MachineState, Act, Stores, Branches, line, outcome, after, effect, goes, stops, lands, stores, exit_of}
 
 -- a store that is not refused, and one that is
 pub stored-at : (p : Program) (s : MachineState) (width to value : ℕ) → refusal s.memory may.Write to width ≡ None
@@ -47,6 +47,15 @@ allowed m to width r u is told = none_of (refusal m may.Write to width) (λ acce
 pub forbidden : (m : Memory) (to width : ℕ) (r : Result (Unit {0}) StoreRefusal) (f : StoreRefusal) (access : Access) → r ≡ Err f → f ≡ refused.Access access
     → ((access : Access) → (r ≡ Err (refused.Access access)) ↔ (refusal m may.Write to width ≡ Some access)) → refusal m may.Write to width ≡ Some access
 forbidden m to width r f access is was told = (told access).0 (is ∙ ap (λ (g : StoreRefusal). Err g) was)
+
+-- a branch that is taken, and one that is not
+pub taken-at : (p : Program) (s : MachineState) (target : Option ℕ) (test : Bool) → test ≡ true → after p s (Branches test target) ≡ lands s (jump_to p target)
+unfolding after
+taken-at p s target test h = ap (λ (b : Bool). if b then lands s (jump_to p target) else goes s (next p s.pc)) h
+
+pub passed-at : (p : Program) (s : MachineState) (target : Option ℕ) (test : Bool) → test ≡ false → after p s (Branches test target) ≡ goes s (next p s.pc)
+unfolding after
+passed-at p s target test h = ap (λ (b : Bool). if b then lands s (jump_to p target) else goes s (next p s.pc)) h
 
 -- past the code the opcode is trap, which panics
 pub op_at-past : (p : Program) (i : ℕ) → length p.code ≤ i → op_at p i ≡ Trap

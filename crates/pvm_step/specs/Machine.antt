@@ -2,7 +2,8 @@
 use Rattle.std.specs.Prelude.{◌≡◌, ℕ, ◌<◌, ◌≤◌, length, ◌⊎◌, ◌^◌, List, Bool, true, false, Option, Some, None, refl}
 use Rattle.std.specs.Coded.{Coded, code_by, coded×, coded_ℕ, coded_bool, coded_list}
 use Rattle.gas_ledger.specs.Schedule.{Schedule, coded_schedule}
-use Rattle.pvm_isa.specs.Arguments.{IsWindow}
+use Rattle.pvm_isa.specs.Arguments.{IsWindow, arguments}
+use Rattle.pvm_isa.specs.declared.form.Form.TheVariants.{F10}
 use Rattle.blob_decode.specs.Program.{Program, next, skip}
 use Rattle.paged_memory.specs.PageMap.{Memory}
 use Rattle.paged_memory.specs.Codes.{memory_code}
@@ -33,6 +34,14 @@ pub record IsAt (pc after_it skipped bytes : ℕ) (m : Machine) : Type 0 where
   pub skip : skipped ≡ skip m.program m.pc
   pub short : skipped ≤ 24
   pub window : IsWindow m.program.code m.pc bytes
+
+-- these are the two registers and the immediate that an instruction of them has where the machine stands
+pub record AreRead (a b x skipped : ℕ) (m : Machine) : Type 0 where
+  pub first : a ≡ (arguments F10 m.program.code m.pc skipped).a
+  pub second : b ≡ (arguments F10 m.program.code m.pc skipped).b
+  pub immediate : x ≡ (arguments F10 m.program.code m.pc skipped).x
+  pub low : a < 13
+  pub high : b < 13
 
 -- what instructions leave: the program, the gas and the schedule
 pub record ChangesStateAlone (m n : Machine) : Type 0 where

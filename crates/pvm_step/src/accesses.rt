@@ -8,7 +8,7 @@ ghost use Rattle.paged_memory.specs.PageMap.{is_width};
 ghost use Rattle.pvm_alu.specs.Alu as alu;
 ghost use Rattle.pvm_step.specs.Effect.{Grows, loads_at_x, loads_at_b_x, stores_y_at_x, stores_a_at_x, stores_y_at_a_x, stores_a_at_b_x, value_in, after, line, outcome};
 ghost use Rattle.pvm_step.specs.declared.attempt.Attempt.TheVariants.{Next};
-ghost use Rattle.pvm_step.specs.Machine.{IsAt, ChangesStateAlone, state_of, after_of, exit_after, is_done};
+ghost use Rattle.pvm_step.specs.Machine.{IsAt, AreRead, ChangesStateAlone, state_of, after_of, exit_after, is_done};
 
 use crate::address::{address, address_from};
 use crate::attempt::Attempt;
@@ -48,11 +48,14 @@ impl Machine {
     }
 
     /// A load at an address in a register, with an offset, where it is not refused; else nothing.
-    #[inline(never)]
+    #[inline(always)]
     pub(crate) fn try_load_at_b_x(
         &mut self,
         op: Op,
         width: u8,
+        a: u8,
+        b: u8,
+        x: u64,
         pc: u64,
         next: u64,
         skip: u8,
@@ -64,14 +67,14 @@ impl Machine {
         requires width { alu.loaded_bytes op ≡ width }
         requires size { IsTrue (is_width width) }
         requires at { IsAt pc next skip bytes self.old }
+        requires read { AreRead a b x skip self.old }
         ensures acts { is_done result ≡ true → after_of self.new (exit_after result) ≡ outcome op self.old.program (state_of self.old) }
         ensures next { result ≡ Next → self.new.pc ≡ blob.next self.old.program self.old.pc }
         ensures same { result ≡ Attempt.Beyond → self.new ≡ self.old }
         ensures rest { ChangesStateAlone self.old self.new }
     {
-        let args = two_registers_and_immediate_in(bytes, skip);
-        let from = address_from(self.value(args.b), args.x);
-        self.try_load(args.a, op, width, from, next)
+        let from = address_from(self.value(b), x);
+        self.try_load(a, op, width, from, next)
     }
 
     /// A store of a register at an immediate address, where it is neither refused nor wants memory; else nothing.
@@ -101,11 +104,14 @@ impl Machine {
 
     /// A store of a register at an address in another, with an offset, where it is neither refused nor wants memory;
     /// else nothing.
-    #[inline(never)]
+    #[inline(always)]
     pub(crate) fn try_store_a_at_b_x(
         &mut self,
         op: Op,
         width: u8,
+        a: u8,
+        b: u8,
+        x: u64,
         pc: u64,
         next: u64,
         skip: u8,
@@ -115,14 +121,14 @@ impl Machine {
         requires form { form_of op ≡ F10 }
         requires size { IsTrue (is_width width) }
         requires at { IsAt pc next skip bytes self.old }
+        requires read { AreRead a b x skip self.old }
         ensures acts { is_done result ≡ true → after_of self.new (exit_after result) ≡ outcome op self.old.program (state_of self.old) }
         ensures next { result ≡ Next → self.new.pc ≡ blob.next self.old.program self.old.pc }
         ensures same { result ≡ Attempt.Beyond → self.new ≡ self.old }
         ensures rest { ChangesStateAlone self.old self.new }
     {
-        let args = two_registers_and_immediate_in(bytes, skip);
-        let to = address_from(self.value(args.b), args.x);
-        let value = self.value(args.a);
+        let to = address_from(self.value(b), x);
+        let value = self.value(a);
         self.try_store(width, to, value, next)
     }
 

@@ -3,13 +3,13 @@ ghost use Rattle.std.specs.Prelude.{◌≡◌, ◌+◌, IsTrue, true, IfOk, IsOk
 ghost use Rattle.pvm_isa.specs.Arguments.{arguments};
 ghost use Rattle.pvm_isa.specs.Opcodes.{form_of};
 ghost use Rattle.pvm_isa.specs.declared.form.Form.TheVariants.{F2, F6, F8, F11, F12};
-ghost use Rattle.pvm_isa.specs.declared.op.Op.TheVariants.{Fallthrough, Jump, LoadImmJump};
+ghost use Rattle.pvm_isa.specs.declared.op.Op.TheVariants.{Fallthrough, Jump, JumpInd, LoadImmJump};
 ghost use Rattle.blob_decode.specs.Program as blob;
 ghost use Rattle.pvm_alu.specs.Alu as alu;
 ghost use Rattle.pvm_step.specs.declared.exit.Exit.TheVariants.{Host};
-ghost use Rattle.pvm_step.specs.Effect.{Exits, JumpsThrough, SetsAndJumpsThrough, branches_on_a_x, branches_on_a_b, line, after, address, value_in, outcome};
+ghost use Rattle.pvm_step.specs.Effect.{Exits, JumpsThrough, SetsAndJumpsThrough, branches_on_a_x, branches_on_a_b, line, after, address, value_in, outcome, lands};
 ghost use Rattle.pvm_step.specs.declared.attempt.Attempt.TheVariants.{Next};
-ghost use Rattle.pvm_step.specs.Machine.{IsAt, ChangesStateAlone, state_of, after_of, exit_after, is_done};
+ghost use Rattle.pvm_step.specs.Machine.{IsAt, AreRead, ChangesStateAlone, state_of, after_of, exit_after, is_done};
 
 use crate::address::address_from;
 use crate::attempt::Attempt;
@@ -17,8 +17,8 @@ use crate::exit::Exit;
 use crate::machine::Machine;
 use pvm_alu::test;
 use pvm_isa::{
-    Op, one_immediate, one_offset, register_and_immediate_in, register_immediate_and_offset,
-    register_immediate_and_offset_in, two_registers_and_offset_in,
+    Op, at_distance, immediate_before_offset_in, one_immediate, one_offset,
+    register_and_immediate_in, register_immediate_and_offset, register_immediate_and_offset_in,
     two_registers_and_two_immediates,
 };
 use std::alloc::AllocError;
@@ -63,6 +63,25 @@ impl Machine {
     {
         let args = one_offset(self.program.code(), pc, skip);
         self.jump(args.target)
+    }
+
+    /// A jump through the jump table, where it does not halt; else nothing.
+    #[inline(never)]
+    #[tactic(auto, unfolding(crate::specs::Effect::outcome, crate::specs::Effect::line, crate::specs::Effect::after, pvm_isa::specs::Opcodes::entry))]
+    pub(crate) fn try_jump_ind(&mut self, pc: u64, next: u64, skip: u8, bytes: u64) -> Attempt
+        requires at { IsAt pc next skip bytes self.old }
+        ensures acts { is_done result ≡ true → after_of self.new (exit_after result) ≡ outcome JumpInd self.old.program (state_of self.old) }
+        ensures next { result ≡ Next → self.new.pc ≡ blob.next self.old.program self.old.pc }
+        ensures same { result ≡ Attempt.Beyond → self.new ≡ self.old }
+        ensures rest { ChangesStateAlone self.old self.new }
+    {
+        let args = register_and_immediate_in(bytes, skip);
+        let through = address_from(self.value(args.a), args.x);
+        match self.jump_through(through) {
+            None => Attempt::Jumped,
+            Some(Exit::Panic) => Attempt::Panics,
+            Some(_) => Attempt::Beyond,
+        }
     }
 
     /// A jump through the jump table.
@@ -122,11 +141,27 @@ impl Machine {
         Ok(self.jump_through(by))
     }
 
-    /// A branch on the value of a register and an immediate.
+    // A jump to the target of an instruction of a register, an immediate and an offset.
     #[inline(never)]
+    fn jump_by_offset(&mut self, pc: u64, next: u64, skip: u8, bytes: u64) -> Attempt
+        requires at { IsAt pc next skip bytes self.old }
+        ensures landed { after_of self.new (exit_after result) ≡ lands (state_of self.old) (blob.jump_to self.old.program (arguments F8 self.old.program.code self.old.pc skip).target) }
+        ensures next { result ≡ Next → self.new.pc ≡ blob.next self.old.program self.old.pc }
+        ensures done { is_done result ≡ true }
+        ensures rest { ChangesStateAlone self.old self.new }
+    {
+        let args = register_immediate_and_offset_in(self.program.code(), bytes, pc, skip);
+        self.jump(args.target)
+    }
+
+    /// A branch on the value of a register and an immediate.
+    #[inline(always)]
     pub(crate) fn branch_on_a_x(
         &mut self,
         op: Op,
+        a: u8,
+        b: u8,
+        x: u64,
         pc: u64,
         next: u64,
         skip: u8,
@@ -136,21 +171,27 @@ impl Machine {
         requires form { form_of op ≡ F8 }
         requires operation { IsTrue (alu.is_test op) }
         requires at { IsAt pc next skip bytes self.old }
+        requires read { AreRead a b x skip self.old }
         ensures acts { after_of self.new (exit_after result) ≡ outcome op self.old.program (state_of self.old) }
         ensures next { result ≡ Next → self.new.pc ≡ blob.next self.old.program self.old.pc }
         ensures done { is_done result ≡ true }
         ensures rest { ChangesStateAlone self.old self.new }
     {
-        let args = register_immediate_and_offset_in(self.program.code(), bytes, pc, skip);
-        let taken = test(op, self.value(args.a), args.x);
-        self.branch(taken, args.target, next)
+        if test(op, self.value(a), immediate_before_offset_in(bytes)) {
+            return self.jump_by_offset(pc, next, skip, bytes);
+        }
+        self.go_on(next);
+        Attempt::Next
     }
 
     /// A branch on the values of two registers.
-    #[inline(never)]
+    #[inline(always)]
     pub(crate) fn branch_on_a_b(
         &mut self,
         op: Op,
+        a: u8,
+        b: u8,
+        x: u64,
         pc: u64,
         next: u64,
         skip: u8,
@@ -160,6 +201,7 @@ impl Machine {
         requires form { form_of op ≡ F11 }
         requires operation { IsTrue (alu.is_test op) }
         requires at { IsAt pc next skip bytes self.old }
+        requires read { AreRead a b x skip self.old }
         ensures acts { after_of self.new (exit_after result) ≡ outcome op self.old.program (state_of self.old) }
         ensures next { result ≡ Next → self.new.pc ≡ blob.next self.old.program self.old.pc }
         ensures done { is_done result ≡ true }
@@ -167,8 +209,7 @@ impl Machine {
     {
         // The code is shorter than 2^63.
         let _code = self.program.code();
-        let args = two_registers_and_offset_in(bytes, pc, skip);
-        let taken = test(op, self.value(args.a), self.value(args.b));
-        self.branch(taken, args.target, next)
+        let taken = test(op, self.value(a), self.value(b));
+        self.branch(taken, at_distance(pc, x), next)
     }
 }

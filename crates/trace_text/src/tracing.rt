@@ -54,8 +54,7 @@ pub fn trace(alloc: Global, machine: &mut Machine, last: usize) -> Result<TraceO
 {
     let mut watcher = LastInstructions::new(alloc)?;
     let exit = machine.run_to_end(&mut watcher)?;
-    let kept = watcher.kept.to_vec(alloc)?;
-    let first = kept.len().saturating_sub(last);
-    let steps = step_lines(alloc, &kept[first..])?;
+    let kept = watcher.last(alloc, last)?;
+    let steps = step_lines(alloc, &kept)?;
     Ok(TraceOutcome { exit, steps })
 }

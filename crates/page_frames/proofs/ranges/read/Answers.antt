@@ -1,4 +1,4 @@
-use Rattle.std.proofs.Common.{◌≡◌, ◌+◌, ◌≤◌, ◌^◌, arith, length}
+use Rattle.std.proofs.Common.{◌+◌, ◌≤◌, ◌^◌, arith, length}
 use Rattle.page_frames.specs.FrameTable.{bytes_below}
 use Rattle.page_frames.proofs.Bytes.{length-below}
 use Rattle.page_frames.proofs.Pieces.{piece_seen, piece_read}

@@ -1,7 +1,7 @@
 use Rattle.std.proofs.Common.{◌^◌, arith}
 use Rattle.page_frames.specs.FrameTable.{bytes_below}
 use Rattle.page_frames.proofs.Bytes.{length-below}
-use Rattle.page_frames.proofs.Pieces.{page_zeroed, none_zeroed}
+use Rattle.page_frames.proofs.Pieces.{page_zeroed}
 use Rattle.page_frames.proofs.ranges.zero.Goals as goal
 
 pub pages-preserved : goal.pages-preserved

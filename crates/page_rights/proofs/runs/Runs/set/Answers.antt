@@ -13,8 +13,8 @@ returns-then-is_none-clause-ok c =
     granted_already c.args.first c.args.count c.args.self.now c.args.rights (part_size c.args.first c.args.count c.self.inside.runs.items c.args.self.now c.requires c.self.view_is)
     (ap (position_from (is_sought (Other c.args.rights)) c.args.first) (sym (part_seen c.args.first c.args.count c.self.inside.runs.items c.args.self.now c.requires c.self.view_is c.deref.result.now e)) ∙ sym c.first_sought.ensures ∙ none)
 
-pub returns-in_err-self-inside-clause-held : goal.returns-in_err-self-inside-clause-held
-returns-in_err-self-inside-clause-held c same =
+pub returns-in_err-runs-clause-held : goal.returns-in_err-runs-clause-held
+returns-in_err-runs-clause-held c same =
     let e : c.deref.result.now ≡ c.self.inside.runs.items = search rules in
     let none : c.first_sought.result ≡ None =
     c.first_sought.ensures ∙ ap (position_from (is_sought (Other c.args.rights)) c.args.first) (part_seen c.args.first c.args.count c.self.inside.runs.items c.args.self.now c.requires c.self.view_is c.deref.result.now e) ∙ none_other c.args.first c.args.count c.args.self.now c.args.rights same in

@@ -7,7 +7,7 @@ use Rattle.blob_decode.specs.declared.program.ProgramRefusal.{ProgramRefusal}
 use Rattle.blob_decode.specs.declared.program.ProgramRefusal.TheVariants.{NotProgram}
 use Rattle.blob_decode.specs.Kept.{program_of}
 use Rattle.blob_decode.specs.BlobLaws.{program_blob_laws}
-use Rattle.blob_decode.proofs.program.Program.deblob.Goals as goal
+use Rattle.blob_decode.proofs.program.Program.parsed.Goals as goal
 
 pub returns-clause-found : goal.returns-clause-found
 returns-clause-found c =
