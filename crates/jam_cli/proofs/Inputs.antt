@@ -13,7 +13,7 @@ use Rattle.jam_cli.specs.declared.verb.Kind.TheVariants.{Program}
 use Rattle.jam_cli.specs.Table.{Input, NamesNone}
 use Rattle.jam_cli.specs.Command.{File, held}
 use Rattle.jam_cli.specs.Ending.{limit, WasRead, AllRead, FirstTooLong, FirstNamed, IsInputWord}
-use Rattle.jam_cli.specs.Parts.{plain_input, plain_inputs, inputs_in, IsKept, IsFile, AreFiles, AreHeld, AreRead, NotRead, EndOf}
+use Rattle.jam_cli.specs.Parts.{plain_input, plain_inputs, inputs_in, IsKeptFile, IsFile, AreFiles, AreHeld, AreReadFiles, NotRead, EndOf}
 
 -- what the code has where no input is
 abbrev pub nothing : code_input.Input
@@ -103,12 +103,12 @@ files_push (e ∷ fs) (h ∷ gs) f g are is = (are.0, files_push fs gs f g are.1
 
 -- one file more
 pub read_more : (told : Option Files) (xs : List code_input.Input) (k : ℕ) (x : code_input.Input) (all : List code_file.File) (f : code_file.File) (bytes : List ℕ) → IsAt xs k x
-    → AreRead told (plain_inputs (take k xs)) all → f.input ≡ x → IsKept x.kind f.kept bytes → length bytes ≤ limit → IfSome told (λ files. bytes ≡ content files x.name.now)
-    → AreRead told (plain_inputs (take (k + 1) xs)) (all ++ (f ∷ []))
+    → AreReadFiles told (plain_inputs (take k xs)) all → f.input ≡ x → IsKeptFile x.kind f.kept bytes → length bytes ≤ limit → IfSome told (λ files. bytes ≡ content files x.name.now)
+    → AreReadFiles told (plain_inputs (take (k + 1) xs)) (all ++ (f ∷ []))
 read_more told xs k x all f bytes is before same keeps fits gives = record {
   files = before.files ++ (file_with (plain_input x) bytes ∷ []);
   are = files_push all before.files f (file_with (plain_input x) bytes) before.are
-      (record { input = ap plain_input (sym same); kept = subst (λ (i : code_input.Input). IsKept i.kind f.kept bytes) (sym same) keeps });
+      (record { input = ap plain_input (sym same); kept = subst (λ (i : code_input.Input). IsKeptFile i.kind f.kept bytes) (sym same) keeps });
   inputs = map-append (λ (g : File). g.input) before.files (file_with (plain_input x) bytes ∷ []) ∙ ap (λ is. is ++ (plain_input x ∷ [])) before.inputs ∙ sym (more xs k x is);
   read = held_push told xs k x before.files bytes is before.read fits gives;
 }

@@ -13,7 +13,7 @@ use Rattle.jam_cli.specs.declared.kept.Kept as kept_file
 use Rattle.jam_cli.specs.declared.kept.Kept.TheVariants as kept
 use Rattle.jam_cli.specs.Table.{Input}
 use Rattle.jam_cli.specs.Command.{File, ValueOf, format_of, kinds, Values, SpellAll, IsSpelled}
-use Rattle.jam_cli.specs.Parts.{plain_input, inputs_in, first_bytes, later_files, IsKept, KeepsWhole, AreFiles, AreKept, IsNone, refused_as, NotAllSpelled}
+use Rattle.jam_cli.specs.Parts.{plain_input, inputs_in, first_bytes, later_files, IsKeptFile, KeepsWhole, AreFiles, AreKeptFiles, IsNone, refused_as, NotAllSpelled}
 
 head : {k l : Kind} {ks ls : List Kind} → k ∷ ks ≡ l ∷ ls → k ≡ l
 head e = cc
@@ -45,32 +45,32 @@ module _ (fs rest : List code_file.File) (f : code_file.File) (are : fs ≡ f �
   kind_is = sym (head (sym of ∙ ap (λ (gs : List code_file.File). kinds (inputs_in gs)) are))
 
   -- what holds of each first file and the later ones holds of all files
-  by_first : (P : List File → Type 0) → ((g : File) (gs : List File) → g.input ≡ plain_input f.input → IsKept kind f.kept g.bytes → AreFiles rest gs → P (g ∷ gs)) → (gs : List File) → AreFiles fs gs → P gs
+  by_first : (P : List File → Type 0) → ((g : File) (gs : List File) → g.input ≡ plain_input f.input → IsKeptFile kind f.kept g.bytes → AreFiles rest gs → P (g ∷ gs)) → (gs : List File) → AreFiles fs gs → P gs
   by_first P by gs all = first gs (subst (λ hs. AreFiles hs gs) are all)
     where
       first : (gs : List File) → AreFiles (f ∷ rest) gs → P gs
       first [] all = absurd all
-      first (g ∷ gs) all = by g gs all.0.input (subst (λ k. IsKept k f.kept g.bytes) kind_is all.0.kept) all.1
+      first (g ∷ gs) all = by g gs all.0.input (subst (λ k. IsKeptFile k f.kept g.bytes) kind_is all.0.kept) all.1
 
-  pub front_kept : AreKept fs → (bytes : List ℕ) × IsKept kind f.kept bytes
-  front_kept kept = by_first (λ gs. (bytes : List ℕ) × IsKept kind f.kept bytes) (λ g gs input keeps others. (g.bytes, keeps)) kept.0 kept.1
+  pub front_kept : AreKeptFiles fs → (bytes : List ℕ) × IsKeptFile kind f.kept bytes
+  front_kept kept = by_first (λ gs. (bytes : List ℕ) × IsKeptFile kind f.kept bytes) (λ g gs input keeps others. (g.bytes, keeps)) kept.0 kept.1
 
-  pub rest_kept : AreKept fs → AreKept rest
-  rest_kept kept = by_first (λ gs. AreKept rest) (λ g gs input keeps others. (gs, others)) kept.0 kept.1
+  pub rest_kept : AreKeptFiles fs → AreKeptFiles rest
+  rest_kept kept = by_first (λ gs. AreKeptFiles rest) (λ g gs input keeps others. (gs, others)) kept.0 kept.1
 
-  pub front_refused : (refusal : FileRefusal) → ((bytes : List ℕ) → IsKept kind f.kept bytes → IsNone kind bytes refusal)
+  pub front_refused : (refusal : FileRefusal) → ((bytes : List ℕ) → IsKeptFile kind f.kept bytes → IsNone kind bytes refusal)
       → (gs : List File) → AreFiles fs gs → NotAllSpelled (refused_as f.input.word refusal) gs
   front_refused refusal none = by_first (λ gs. NotAllSpelled (refused_as f.input.word refusal) gs) (λ g gs input keeps others.
       subst (λ (i : Input). NotAllSpelled (refused_as i.word refusal) (g ∷ gs)) input
       (none_here g gs refusal (subst (λ (i : Input). IsNone i.kind g.bytes refusal) (sym input) (subst (λ k. IsNone k g.bytes refusal) (sym kind_is) (none g.bytes keeps)))))
 
-  pub later_refused : (refusal : Refusal) → ((bytes : List ℕ) → IsKept kind f.kept bytes → IsSpelled kind bytes)
+  pub later_refused : (refusal : Refusal) → ((bytes : List ℕ) → IsKeptFile kind f.kept bytes → IsSpelled kind bytes)
       → ((gs : List File) → AreFiles rest gs → NotAllSpelled refusal gs) → (gs : List File) → AreFiles fs gs → NotAllSpelled refusal gs
   later_refused refusal spelled not = by_first (λ gs. NotAllSpelled refusal gs) (λ g gs input keeps others.
       none_later g gs refusal (subst (λ (i : Input). IsSpelled i.kind g.bytes) (sym input) (subst (λ k. IsSpelled k g.bytes) (sym kind_is) (spelled g.bytes keeps))) (not gs others))
 
   pub all_spelled : (Tells : List ℕ → Type 0) (value : List ℕ → ValueOf kind) (Tell : List File → Type 0) (values : List File → Values ks)
-      → ((bytes : List ℕ) → IsKept kind f.kept bytes → Tells bytes × Spells (format_of kind) (value bytes) bytes)
+      → ((bytes : List ℕ) → IsKeptFile kind f.kept bytes → Tells bytes × Spells (format_of kind) (value bytes) bytes)
       → ((gs : List File) → AreFiles rest gs → Tell gs × SpellAll ks (values gs) gs)
       → (gs : List File) → AreFiles fs gs → (Tells (first_bytes gs) × Tell (later_files gs)) × SpellAll (kind ∷ ks) (value (first_bytes gs), values (later_files gs)) gs
   all_spelled Tells value Tell values here others =
@@ -85,7 +85,7 @@ same_whole (kept.Whole v) a b p q = sym p ∙ q
 same_whole (kept.Digest d) a b p q = absurd p
 
 -- of every kind but one the files are kept so
-pub kept_whole : (kind : Kind) (k : kept_file.Kept) (bytes : List ℕ) → kind ≢ Bytes → IsKept kind k bytes → KeepsWhole k bytes
+pub kept_whole : (kind : Kind) (k : kept_file.Kept) (bytes : List ℕ) → kind ≢ Bytes → IsKeptFile kind k bytes → KeepsWhole k bytes
 kept_whole Bytes k bytes other keeps = absurd (other refl)
 kept_whole Program k bytes other keeps = keeps
 kept_whole Standard k bytes other keeps = keeps

@@ -72,18 +72,18 @@ KeepsDigest (kept.Whole v) bytes = ⊥
 KeepsDigest (kept.Digest d) bytes = d ≡ digest bytes
 
 -- a file of a kind is kept so
-abbrev pub IsKept : Kind → kept_file.Kept → List ℕ → Type 0
-IsKept Bytes k bytes = KeepsDigest k bytes
-IsKept Program k bytes = KeepsWhole k bytes
-IsKept Standard k bytes = KeepsWhole k bytes
-IsKept State k bytes = KeepsWhole k bytes
-IsKept Batch k bytes = KeepsWhole k bytes
-IsKept Text k bytes = KeepsWhole k bytes
+abbrev pub IsKeptFile : Kind → kept_file.Kept → List ℕ → Type 0
+IsKeptFile Bytes k bytes = KeepsDigest k bytes
+IsKeptFile Program k bytes = KeepsWhole k bytes
+IsKeptFile Standard k bytes = KeepsWhole k bytes
+IsKeptFile State k bytes = KeepsWhole k bytes
+IsKeptFile Batch k bytes = KeepsWhole k bytes
+IsKeptFile Text k bytes = KeepsWhole k bytes
 
 -- the code holds this file
 pub record IsFile (f : code_file.File) (g : File) : Type 0 where
   pub input : g.input ≡ plain_input f.input
-  pub kept : IsKept f.input.kind f.kept g.bytes
+  pub kept : IsKeptFile f.input.kind f.kept g.bytes
 
 -- it holds these, one after another
 abbrev pub AreFiles : List code_file.File → List File → Type 0
@@ -93,8 +93,8 @@ AreFiles (f ∷ fs) [] = ⊥
 AreFiles (f ∷ fs) (g ∷ gs) = IsFile f g × AreFiles fs gs
 
 -- it holds some
-abbrev pub AreKept : List code_file.File → Type 0
-AreKept fs = (gs : List File) × AreFiles fs gs
+abbrev pub AreKeptFiles : List code_file.File → Type 0
+AreKeptFiles fs = (gs : List File) × AreFiles fs gs
 
 -- so of those that it holds
 abbrev pub OfFiles : List code_file.File → (List File → Type 0) → Type 0
@@ -120,7 +120,7 @@ abbrev pub AreHeld : Option Files → List Input → List File → Type 0
 AreHeld told is fs = IfSome told (λ files. AllRead (held files is) × (fs ≡ held files is))
 
 -- the code holds the files of inputs
-pub record AreRead (told : Option Files) (is : List Input) (all : List code_file.File) : Type 0 where
+pub record AreReadFiles (told : Option Files) (is : List Input) (all : List code_file.File) : Type 0 where
   pub files : List File
   pub are : AreFiles all files
   pub inputs : inputs_of files ≡ is

@@ -5,7 +5,7 @@ ghost use Rattle.jam_outside.specs.Causes.{whole_read_leaves};
 ghost use Rattle.blake2b_core.specs.Blake2b.{digest};
 ghost use Rattle.blake2b_core.specs.Hasher.{StandsFor};
 ghost use Rattle.jam_cli.specs.Ending.{limit};
-ghost use Rattle.jam_cli.specs.Parts.{IsKept};
+ghost use Rattle.jam_cli.specs.Parts.{IsKeptFile};
 
 use crate::verb::Kind;
 use blake2b_core::Hasher;
@@ -59,7 +59,7 @@ pub fn read_kept<V: Vault>(
     name: &str,
     kind: Kind,
 ) -> Result<Kept, ReadRefusal>
-    ensures read { IfOk result (λ kept. (bytes : List ℕ) × IsKept kind kept bytes × (length bytes ≤ limit) × IfSome (V.state vault.old).files (λ held. bytes ≡ content held name.now)) }
+    ensures read { IfOk result (λ kept. (bytes : List ℕ) × IsKeptFile kind kept bytes × (length bytes ≤ limit) × IfSome (V.state vault.old).files (λ held. bytes ≡ content held name.now)) }
     ensures too_long { IsErrOf result ReadRefusal.TooLong → IfSome (V.state vault.old).files (λ held. limit < length (content held name.now)) }
     ensures state { V.state vault.new ≡ whole_read_leaves result (V.state vault.old) name.now (V.state vault.new).failed_place }
     ensures place { IsErrOf result ReadRefusal.ReadFault → (V.state vault.new).failed_place ≤ limit }

@@ -2,7 +2,7 @@
 ghost use Rattle.std.specs.Prelude.{◌≡◌, ◌≢◌, ◌⊎◌, OnOk, IfOk, IfErr, IfSome, IsTrue, ◌↔◌};
 ghost use Rattle.jam_cli.specs.Table.{NamesNone};
 ghost use Rattle.jam_cli.specs.Ending.{FirstNamed};
-ghost use Rattle.jam_cli.specs.Parts.{plain_input, plain_inputs, inputs_in, AreKept, AreRead, NotRead, EndOf};
+ghost use Rattle.jam_cli.specs.Parts.{plain_input, plain_inputs, inputs_in, AreKeptFiles, AreReadFiles, NotRead, EndOf};
 
 use crate::kept::{Kept, read_kept};
 use crate::refusal::Refusal;
@@ -61,8 +61,8 @@ pub fn read_inputs<'a, V: Vault>(
     inputs: &[Input<'a>],
 ) -> Result<Vec<File<'a>>, Refusal>
     ensures inputs { IfOk result (λ all. inputs_in all.items ≡ plain_inputs inputs.now) }
-    ensures read { IfOk result (λ all. AreRead (V.state vault.old).files (plain_inputs inputs.now) all.items) }
-    ensures keeps { IfOk result (λ all. AreKept all.items) }
+    ensures read { IfOk result (λ all. AreReadFiles (V.state vault.old).files (plain_inputs inputs.now) all.items) }
+    ensures keeps { IfOk result (λ all. AreKeptFiles all.items) }
     ensures kept { OnOk result (V.state vault.new ≡ V.state vault.old) }
     ensures not_read { IfErr result (λ refusal. NotRead refusal (plain_inputs inputs.now) (V.state vault.old) (V.state vault.new)) }
 {

@@ -5,7 +5,7 @@ ghost use Rattle.blake2b_core.specs.Blake2b as blake2b;
 ghost use Rattle.jam_cli.specs.declared.verb.Kind.{Kind};
 ghost use Rattle.jam_cli.specs.declared.verb.Kind.TheVariants.{Program, Standard, Bytes, State, Batch, Text};
 ghost use Rattle.jam_cli.specs.Command.{File, ValueOf, format_of, kinds, Values, SpellAll};
-ghost use Rattle.jam_cli.specs.Parts.{inputs_in, first_bytes, later_files, IsKept, KeepsWhole, AreKept, OfFiles, IsNone, refused_as, NotAllSpelled};
+ghost use Rattle.jam_cli.specs.Parts.{inputs_in, first_bytes, later_files, IsKeptFile, KeepsWhole, AreKeptFiles, OfFiles, IsNone, refused_as, NotAllSpelled};
 
 use crate::kept::Kept;
 use crate::reads::File;
@@ -117,9 +117,9 @@ pub trait Content: Drop {
 
     /// What stands for the value of a file that is kept so.
     fn decode(alloc: Global, kept: &Kept) -> Result<Self, FileRefusal>
-        requires { (bytes : List ℕ) × IsKept kind kept.now bytes }
-        ensures spelled { IfOk result (λ x. (bytes : List ℕ) → IsKept kind kept.now bytes → Tells x bytes × Spells (format_of kind) (value x bytes) bytes) }
-        ensures refused { IfErr result (λ e. (bytes : List ℕ) → IsKept kind kept.now bytes → IsNone kind bytes e) };
+        requires { (bytes : List ℕ) × IsKeptFile kind kept.now bytes }
+        ensures spelled { IfOk result (λ x. (bytes : List ℕ) → IsKeptFile kind kept.now bytes → Tells x bytes × Spells (format_of kind) (value x bytes) bytes) }
+        ensures refused { IfErr result (λ e. (bytes : List ℕ) → IsKeptFile kind kept.now bytes → IsNone kind bytes e) };
 }
 
 /// A value of a file that is kept as a whole.
@@ -190,7 +190,7 @@ pub trait Contents: Drop {
     /// and the place.
     fn decode_all(alloc: Global, files: &[File<'_>]) -> Result<Self, Refusal>
         requires kinds { kinds (inputs_in files.now) ≡ all_kinds }
-        requires kept { AreKept files.now }
+        requires kept { AreKeptFiles files.now }
         ensures spelled { IfOk result (λ all. OfFiles files.now (λ fs. Tell all fs × SpellAll all_kinds (values all fs) fs)) }
         ensures refused { IfErr result (λ refusal. OfFiles files.now (λ fs. NotAllSpelled refusal fs)) };
 }

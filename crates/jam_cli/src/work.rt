@@ -6,7 +6,7 @@ ghost use Rattle.jam_cli.specs.declared.verb.Kind.TheVariants as kind;
 ghost use Rattle.jam_cli.specs.declared.verb.Verb.TheVariants as the;
 ghost use Rattle.jam_cli.specs.Table.{command, inputs};
 ghost use Rattle.jam_cli.specs.Command.{kinds};
-ghost use Rattle.jam_cli.specs.Parts.{asked, inputs_in, AreKept, WorkedOn};
+ghost use Rattle.jam_cli.specs.Parts.{asked, inputs_in, AreKeptFiles, WorkedOn};
 
 use crate::accumulate::accumulate;
 use crate::asm::asm;
@@ -43,7 +43,7 @@ fn run_on<'a>(
     files: &[File<'_>],
 ) -> Result<Work<'a>, Refusal>
     requires kinds { kinds (inputs_in files.now) ≡ kind.Program ∷ [] }
-    requires kept { AreKept files.now }
+    requires kept { AreKeptFiles files.now }
     ensures { WorkedOn (command the.Run (blob.now, (gas.value, tt))) files.now result }
 {
     let (Whole(program), ()) = Contents::decode_all(alloc, files)?;
@@ -60,7 +60,7 @@ fn trace_on<'a>(
     files: &[File<'_>],
 ) -> Result<Work<'a>, Refusal>
     requires kinds { kinds (inputs_in files.now) ≡ kind.Standard ∷ [] }
-    requires kept { AreKept files.now }
+    requires kept { AreKeptFiles files.now }
     ensures { WorkedOn (command the.Trace (standard.now, (entry, (gas.value, (args.now.bytes.items, (last.value, tt)))))) files.now result }
 {
     let (Whole(program), ()) = Contents::decode_all(alloc, files)?;
@@ -69,7 +69,7 @@ fn trace_on<'a>(
 
 fn show_on<'a>(alloc: Global, state: &'a str, files: &[File<'_>]) -> Result<Work<'a>, Refusal>
     requires kinds { kinds (inputs_in files.now) ≡ kind.State ∷ [] }
-    requires kept { AreKept files.now }
+    requires kept { AreKeptFiles files.now }
     ensures { WorkedOn (command the.Show (state.now, tt)) files.now result }
 {
     let (Whole(state), ()) = Contents::decode_all(alloc, files)?;
@@ -78,7 +78,7 @@ fn show_on<'a>(alloc: Global, state: &'a str, files: &[File<'_>]) -> Result<Work
 
 fn hash_on<'a>(alloc: Global, file: &'a str, files: &[File<'_>]) -> Result<Work<'a>, Refusal>
     requires kinds { kinds (inputs_in files.now) ≡ kind.Bytes ∷ [] }
-    requires kept { AreKept files.now }
+    requires kept { AreKeptFiles files.now }
     ensures { WorkedOn (command the.Hash (file.now, tt)) files.now result }
 {
     let (Digest(digest), ()) = Contents::decode_all(alloc, files)?;
@@ -92,7 +92,7 @@ fn asm_on<'a>(
     files: &[File<'_>],
 ) -> Result<Work<'a>, Refusal>
     requires kinds { kinds (inputs_in files.now) ≡ kind.Text ∷ [] }
-    requires kept { AreKept files.now }
+    requires kept { AreKeptFiles files.now }
     ensures { WorkedOn (command the.Asm (text.now, (out.now, tt))) files.now result }
 {
     let (Whole(found), ()): (Whole<String>, ()) = Contents::decode_all(alloc, files)?;
@@ -101,7 +101,7 @@ fn asm_on<'a>(
 
 fn disasm_on<'a>(alloc: Global, blob: &'a str, files: &[File<'_>]) -> Result<Work<'a>, Refusal>
     requires kinds { kinds (inputs_in files.now) ≡ kind.Program ∷ [] }
-    requires kept { AreKept files.now }
+    requires kept { AreKeptFiles files.now }
     ensures { WorkedOn (command the.Disasm (blob.now, tt)) files.now result }
 {
     let (Whole(program), ()) = Contents::decode_all(alloc, files)?;
@@ -117,7 +117,7 @@ fn accumulate_on<'a>(
     files: &[File<'_>],
 ) -> Result<Work<'a>, Refusal>
     requires kinds { kinds (inputs_in files.now) ≡ kind.State ∷ (kind.Batch ∷ []) }
-    requires kept { AreKept files.now }
+    requires kept { AreKeptFiles files.now }
     ensures { WorkedOn (command the.Accumulate (state.now, (batch.now, (posterior.now, (slice, tt))))) files.now result }
 {
     let (Whole(prior), (Whole(batch), ())) = Contents::decode_all(alloc, files)?;
@@ -132,7 +132,7 @@ pub fn work_of<'a>(
     files: &[File<'_>],
 ) -> Result<Work<'a>, Refusal>
     requires kinds { kinds (inputs_in files.now) ≡ kinds (inputs (asked command.now)) }
-    requires kept { AreKept files.now }
+    requires kept { AreKeptFiles files.now }
     ensures { WorkedOn (asked command.now) files.now result }
 {
     match command {

@@ -19,7 +19,7 @@ use Rattle.pvm_asm.specs.declared.line.Statement.TheVariants as statement
 use Rattle.pvm_asm.specs.declared.line.Line.{Line}
 use Rattle.pvm_asm.specs.declared.given.Given.{Given}
 use Rattle.pvm_asm.specs.declared.survey.Survey.{Survey}
-use Rattle.pvm_disasm.specs.Listing.{lead, units, jump_line, jump_lines, lead_lines, unit_lines, program_lines, listing}
+use Rattle.pvm_disasm.specs.Listing.{lead, code_units, jump_line, jump_lines, lead_lines, unit_lines, program_lines, listing}
 use Rattle.pvm_disasm.proofs.Digits.{plain, hex-is}
 use Rattle.pvm_disasm.proofs.Plain.{IsPlain, plain-from_dense, plain-append, decimal-dense, hex-dense, unit-plain}
 use Rattle.pvm_disasm.proofs.Splits.{ArePlain, ArePlain-append, lines-text}
@@ -138,13 +138,13 @@ assembled width lines body given j size q h =
 module _ (sized : (labels : Labels) (place : ℕ) (i : Instruction) → length (instruction_bytes labels place i) ≡ instruction_size i) where
   all-lead : (width : ℕ) (jumps code : List ℕ) (mask : List Bool) → width ≤ 8 → length jumps < 2 ^ 64 → AreEntries width jumps → length mask ≡ length code → AreBytes code
       → assembly_by (after_lines unread (unlabelled (statement.Header Raw) ∷ (unlabelled (statement.Number Width (plain width))
-      ∷ (map read_line (jump_lines width jumps) ++ (map read_line (lead_lines (lead mask code)) ++ (map read_line (unit_lines (length (lead mask code)) (units mask code)) ++ (unlabelled statement.Nothing ∷ [])))))))
+      ∷ (map read_line (jump_lines width jumps) ++ (map read_line (lead_lines (lead mask code)) ++ (map read_line (unit_lines (length (lead mask code)) (code_units mask code)) ++ (unlabelled statement.Nothing ∷ [])))))))
       (unlabelled (statement.Header Raw) ∷ (unlabelled (statement.Number Width (plain width))
-      ∷ (map read_line (jump_lines width jumps) ++ (map read_line (lead_lines (lead mask code)) ++ (map read_line (unit_lines (length (lead mask code)) (units mask code)) ++ (unlabelled statement.Nothing ∷ []))))))
+      ∷ (map read_line (jump_lines width jumps) ++ (map read_line (lead_lines (lead mask code)) ++ (map read_line (unit_lines (length (lead mask code)) (code_units mask code)) ++ (unlabelled statement.Nothing ∷ []))))))
       ≡ Ok (blob_of width jumps code mask)
   all-lead width jumps code mask narrow count entries masked are =
       let front : List ℕ = lead mask code in
-      let us : List (List ℕ) = units mask code in
+      let us : List (List ℕ) = code_units mask code in
       let place : ℕ = length front in
       let table : IsTable width jumps (map read_line (jump_lines width jumps)) = table-is width jumps narrow count entries in
       let given : Given = noted table.first table.second (any_lead front) in
@@ -189,18 +189,18 @@ module _ (sized : (labels : Labels) (place : ℕ) (i : Instruction) → length (
       word-plain (codes ".width ") p.width refl,
       ArePlain-append (jump_lines p.width p.jumps) _ (table-plain p.width p.jumps)
           (ArePlain-append (lead_lines (lead p.mask p.code)) _ (lead-plain (lead p.mask p.code) (lead-are p.mask p.code are))
-          (units-plain (length (lead p.mask p.code)) (units p.mask p.code) (units-are p.mask p.code are))),
+          (units-plain (length (lead p.mask p.code)) (code_units p.mask p.code) (units-are p.mask p.code are))),
     ),
   )
 
   lines-read : (p : Program) → p.width ≤ 8
       → map read_line (program_lines p ++ ([] ∷ [])) ≡ unlabelled (statement.Header Raw) ∷ (unlabelled (statement.Number Width (plain p.width))
-      ∷ (map read_line (jump_lines p.width p.jumps) ++ (map read_line (lead_lines (lead p.mask p.code)) ++ (map read_line (unit_lines (length (lead p.mask p.code)) (units p.mask p.code)) ++ (unlabelled statement.Nothing ∷ [])))))
+      ∷ (map read_line (jump_lines p.width p.jumps) ++ (map read_line (lead_lines (lead p.mask p.code)) ++ (map read_line (unit_lines (length (lead p.mask p.code)) (code_units p.mask p.code)) ++ (unlabelled statement.Nothing ∷ [])))))
   unfolding program_lines
   lines-read p narrow =
       let table : List (List ℕ) = jump_lines p.width p.jumps in
       let front : List (List ℕ) = lead_lines (lead p.mask p.code) in
-      let us : List (List ℕ) = unit_lines (length (lead p.mask p.code)) (units p.mask p.code) in
+      let us : List (List ℕ) = unit_lines (length (lead p.mask p.code)) (code_units p.mask p.code) in
       let third : map read_line (us ++ ([] ∷ [])) ≡ map read_line us ++ (unlabelled statement.Nothing ∷ []) = map-append read_line us ([] ∷ []) ∙ ap (λ l. map read_line us ++ (l ∷ [])) reads-nothing in
       let second : map read_line ((front ++ us) ++ ([] ∷ [])) ≡ map read_line front ++ (map read_line us ++ (unlabelled statement.Nothing ∷ [])) =
       ap (map read_line) (append_assoc front us ([] ∷ [])) ∙ map-append read_line front (us ++ ([] ∷ [])) ∙ ap (λ t. map read_line front ++ t) third in

@@ -6,7 +6,7 @@ use Rattle.pvm_asm.specs.declared.instruction.Operand.{Operand}
 use Rattle.pvm_disasm.specs.Units.{later_operands}
 use Rattle.hex.specs.Hex.{encode_lower}
 use Rattle.blob_decode.specs.Program.{Program}
-use Rattle.pvm_disasm.specs.Listing.{lead, units, lines_text, jump_line, jump_lines, lead_lines, unit_lines, program_lines, listing}
+use Rattle.pvm_disasm.specs.Listing.{lead, code_units, lines_text, jump_line, jump_lines, lead_lines, unit_lines, program_lines, listing}
 
 pub lines-append : (xs ys : List (List ℕ)) → lines_text (xs ++ ys) ≡ lines_text xs ++ lines_text ys
 unfolding lines_text
@@ -75,15 +75,15 @@ no-lead text (byte ∷ bytes) few = absurd (omega arith)
 
 -- the lines of the code, and all lines
 pub code-listed : (text mid next : List ℕ) (mask : List Bool) (code : List ℕ) (first : ℕ) → first ≤ length code
-    → lead mask code ≡ take (first - 0) code → units mask code ≡ units (drop first mask) (drop first code)
+    → lead mask code ≡ take (first - 0) code → code_units mask code ≡ code_units (drop first mask) (drop first code)
     → mid ≡ text ++ lines_text (lead_lines (take first code))
-    → next ≡ mid ++ lines_text (unit_lines first (units (drop first mask) (drop first code)))
-    → next ≡ text ++ lines_text (lead_lines (lead mask code) ++ unit_lines (length (lead mask code)) (units mask code))
+    → next ≡ mid ++ lines_text (unit_lines first (code_units (drop first mask) (drop first code)))
+    → next ≡ text ++ lines_text (lead_lines (lead mask code) ++ unit_lines (length (lead mask code)) (code_units mask code))
 code-listed text mid next mask code first within lead_is units_are e f =
     let none : first - 0 ≡ first = omega arith in
     let front : lead mask code ≡ take first code = lead_is ∙ ap (λ n. take n code) none in
     let size : length (lead mask code) ≡ first = ap length front ∙ length-take-le first code within in
-    let rest : List (List ℕ) = units (drop first mask) (drop first code) in
+    let rest : List (List ℕ) = code_units (drop first mask) (drop first code) in
     f
     ∙ ap (λ t. t ++ lines_text (unit_lines first rest)) e
     ∙ append_assoc text (lines_text (lead_lines (take first code))) (lines_text (unit_lines first rest))
@@ -94,12 +94,12 @@ code-listed text mid next mask code first within lead_is units_are e f =
 
 pub all-listed : (p : Program) (first second third : List ℕ) → first ≡ codes ".raw\n.width " ++ (decimal p.width ++ (10 ∷ []))
     → second ≡ first ++ lines_text (jump_lines p.width p.jumps)
-    → third ≡ second ++ lines_text (lead_lines (lead p.mask p.code) ++ unit_lines (length (lead p.mask p.code)) (units p.mask p.code))
+    → third ≡ second ++ lines_text (lead_lines (lead p.mask p.code) ++ unit_lines (length (lead p.mask p.code)) (code_units p.mask p.code))
     → third ≡ listing p
 unfolding listing program_lines lines_text
 all-listed p first second third e f g =
     let table : List (List ℕ) = jump_lines p.width p.jumps in
-    let code : List (List ℕ) = lead_lines (lead p.mask p.code) ++ unit_lines (length (lead p.mask p.code)) (units p.mask p.code) in
+    let code : List (List ℕ) = lead_lines (lead p.mask p.code) ++ unit_lines (length (lead p.mask p.code)) (code_units p.mask p.code) in
     g
     ∙ ap (λ t. t ++ lines_text code) f
     ∙ append_assoc first (lines_text table) (lines_text code)

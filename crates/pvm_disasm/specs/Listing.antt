@@ -11,10 +11,10 @@ lead (mark ∷ mask) [] = []
 lead (mark ∷ mask) (byte ∷ code) = if mark then [] else byte ∷ lead mask code
 
 -- its units: one begins at each byte at which an instruction begins, and has the bytes up to the next
-unfoldable pub units : List Bool → List ℕ → List (List ℕ)
-units [] code = []
-units (mark ∷ mask) [] = []
-units (mark ∷ mask) (byte ∷ code) = if mark then (byte ∷ lead mask code) ∷ units mask code else units mask code
+unfoldable pub code_units : List Bool → List ℕ → List (List ℕ)
+code_units [] code = []
+code_units (mark ∷ mask) [] = []
+code_units (mark ∷ mask) (byte ∷ code) = if mark then (byte ∷ lead mask code) ∷ code_units mask code else code_units mask code
 
 -- the entries of the jump table, of so many bytes each: a line each; or, where they have none, one line with their number
 abbrev pub jump_line : ℕ → List ℕ
@@ -41,7 +41,7 @@ unit_lines place (unit ∷ more) = unit_line place unit ∷ unit_lines (place + 
 unfoldable pub program_lines : Program → List (List ℕ)
 program_lines p =
     codes ".raw" ∷ ((codes ".width " ++ decimal p.width) ∷ (jump_lines p.width p.jumps
-    ++ (lead_lines (lead p.mask p.code) ++ unit_lines (length (lead p.mask p.code)) (units p.mask p.code))))
+    ++ (lead_lines (lead p.mask p.code) ++ unit_lines (length (lead p.mask p.code)) (code_units p.mask p.code))))
 
 -- a line feed after each line
 unfoldable pub lines_text : List (List ℕ) → List ℕ

@@ -4,7 +4,7 @@ ghost use Rattle.jam_codec.specs.Format.{Spells};
 ghost use Rattle.blob_decode.specs.Program.{Program, program_blob, mask_bit};
 ghost use Rattle.pvm_asm.specs.Assembly.{assembly};
 ghost use Rattle.pvm_disasm.specs.declared.listing.ListRefusal.TheVariants.{NoMemory};
-ghost use Rattle.pvm_disasm.specs.Listing.{lead, units, jump_line, jump_lines, lead_lines, unit_lines, program_lines, lines_text, listing};
+ghost use Rattle.pvm_disasm.specs.Listing.{lead, code_units, jump_line, jump_lines, lead_lines, unit_lines, program_lines, lines_text, listing};
 ghost use Rattle.pvm_disasm.specs.Refusal.{IsPlacedList};
 
 use crate::laws::listing_law;
@@ -78,7 +78,7 @@ fn next_unit(program: &Program, from: u64) -> u64
     ensures from { from ≤ result }
     ensures end { result ≤ length program.now.code }
     ensures lead { lead (drop from program.now.mask) (drop from program.now.code) ≡ take (result - from) (drop from program.now.code) }
-    ensures units { units (drop from program.now.mask) (drop from program.now.code) ≡ units (drop result program.now.mask) (drop result program.now.code) }
+    ensures units { code_units (drop from program.now.mask) (drop from program.now.code) ≡ code_units (drop result program.now.mask) (drop result program.now.code) }
     ensures begins { result < length program.now.code → mask_bit program.now result ≡ true }
 {
     let size = program.code().len() as u64;
@@ -101,7 +101,7 @@ fn push_units(
 ) -> Result<(), AllocError>
     requires end { from ≤ length program.now.code }
     requires begins { from < length program.now.code → mask_bit program.now from ≡ true }
-    ensures { OnOk result (string_bytes text.new ≡ string_bytes text.old ++ lines_text (unit_lines from (units (drop from program.now.mask) (drop from program.now.code)))) }
+    ensures { OnOk result (string_bytes text.new ≡ string_bytes text.old ++ lines_text (unit_lines from (code_units (drop from program.now.mask) (drop from program.now.code)))) }
 {
     let code = program.code();
     let size = code.len() as u64;
@@ -119,7 +119,7 @@ fn push_units(
 
 // Adds the lines of the code.
 fn push_code(alloc: Global, text: &mut String, program: &Program) -> Result<(), AllocError>
-    ensures { OnOk result (string_bytes text.new ≡ string_bytes text.old ++ lines_text (lead_lines (lead program.now.mask program.now.code) ++ unit_lines (length (lead program.now.mask program.now.code)) (units program.now.mask program.now.code))) }
+    ensures { OnOk result (string_bytes text.new ≡ string_bytes text.old ++ lines_text (lead_lines (lead program.now.mask program.now.code) ++ unit_lines (length (lead program.now.mask program.now.code)) (code_units program.now.mask program.now.code))) }
 {
     let first = next_unit(program, 0);
     push_lead(alloc, text, &program.code()[..first as usize])?;

@@ -1,12 +1,12 @@
 use Rattle.std.proofs.Common.{◌∙◌, ap, sym, subst}
 use Rattle.std.proofs.lemmas.Result.{err_from_is_err_and}
 use Rattle.jam_outside.specs.Causes.{Appends}
-use Rattle.jam_cli.specs.Parts.{asked, plain_inputs, plain_product, AreFiles, AreKept, NotPrinted, entry_stored}
+use Rattle.jam_cli.specs.Parts.{asked, plain_inputs, plain_product, AreFiles, AreKeptFiles, NotPrinted, entry_stored}
 use Rattle.jam_cli.proofs.Carried.{were_read, spell_ends, makes, print_ends, store_ends}
 use Rattle.jam_cli.proofs.top.carry_out.Goals as goal
 
 pub work_of-requires-clause-kept : goal.work_of-requires-clause-kept
-work_of-requires-clause-kept g c = subst AreKept (sym c.deref-2.ensures.value) c.in_ok-files.ensures.keeps
+work_of-requires-clause-kept g c = subst AreKeptFiles (sym c.deref-2.ensures.value) c.in_ok-files.ensures.keeps
 
 pub returns-in_err-work : goal.returns-in_err-work
 returns-in_err-work g c =
