@@ -1,6 +1,9 @@
 //! The calls of a scope as data, made through the bound.
 use crate::seen::{abc, account_of, transfer_of};
-use account_context::{Delta, Scope, footprint_with_history, footprint_with_value};
+use account_context::{
+    Delta, Scope, footprint_with_history, footprint_with_value, footprint_without_value,
+};
+use jam_accounts::Footprint;
 use preimage_store::History;
 use std::alloc::{AllocError, Global};
 
@@ -29,12 +32,28 @@ pub enum Call<'a> {
     Restore,
 }
 
+// Whether the service's own account takes up what was said before the call.
+fn is_taken_up<S: Scope>(scope: &S, said: Footprint) -> Result<(), AllocError> {
+    match scope.view(scope.service()) {
+        Some(own) if own.footprint == said => Ok(()),
+        _ => Err(AllocError),
+    }
+}
+
 // Keeps a value where it may.
 fn put<S: Scope>(scope: &mut S, key: &[u8], value: &[u8]) -> Result<(), AllocError> {
-    if footprint_with_value(scope, key, value).is_none() {
+    let Some(said) = footprint_with_value(scope, key, value) else {
         return Err(AllocError);
-    }
-    scope.put_value(key, value)
+    };
+    scope.put_value(key, value)?;
+    is_taken_up(scope, said)
+}
+
+// Drops a value.
+fn drop_value<S: Scope>(scope: &mut S, key: &[u8]) -> Result<(), AllocError> {
+    let said = footprint_without_value(scope, key);
+    scope.drop_value(key)?;
+    is_taken_up(scope, said)
 }
 
 // These slots as a history; none where there are none.
@@ -44,10 +63,11 @@ fn history_of(slots: Option<&[u32]>) -> Option<History> {
 
 // Keeps a history of "abc" where it may, or drops it.
 fn set<S: Scope>(scope: &mut S, slots: Option<&[u32]>) -> Result<(), AllocError> {
-    if footprint_with_history(scope, &abc(), 3, history_of(slots)).is_none() {
+    let Some(said) = footprint_with_history(scope, &abc(), 3, history_of(slots)) else {
         return Err(AllocError);
-    }
-    scope.set_history(&abc(), 3, history_of(slots))
+    };
+    scope.set_history(&abc(), 3, history_of(slots))?;
+    is_taken_up(scope, said)
 }
 
 // Adds an account with a balance.
@@ -67,11 +87,12 @@ fn remove<S: Scope>(scope: &mut S, id: u32) -> Result<(), AllocError> {
     scope.remove_account(id)
 }
 
-/// Makes a call. Want of memory is also the answer where its condition is not met.
+/// Makes a call. Want of memory is also the answer where its condition is not met, or the account
+/// does not take up then what was said before.
 pub fn make<S: Scope>(alloc: Global, scope: &mut S, call: &Call<'_>) -> Result<(), AllocError> {
     match *call {
         Call::PutValue(key, value) => put(scope, key, value),
-        Call::DropValue(key) => scope.drop_value(key),
+        Call::DropValue(key) => drop_value(scope, key),
         Call::SetHistory(slots) => set(scope, Some(slots)),
         Call::DropHistory => set(scope, None),
         Call::DropPreimage => scope.drop_preimage(&abc()),
