@@ -2,8 +2,12 @@
 #![tactic(auto)]
 
 #[cfg(test)]
+mod accounts;
+#[cfg(test)]
 mod cases;
 #[cfg(test)]
 mod general;
+#[cfg(test)]
+mod histories;
 #[cfg(test)]
 mod writes;
