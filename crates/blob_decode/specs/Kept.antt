@@ -53,12 +53,12 @@ pub record LastSet (bits n : ℕ) : Type 0 where
   pub above : (j : ℕ) → n < j → bits / 2 ^ j ≡ 0
 
 -- this is what stands at a place
-pub record IsKept (p : Program) (place : ℕ) (kept : Place) : Type 0 where
+pub record IsPlace (p : Program) (place : ℕ) (kept : Place) : Type 0 where
   pub op : kept.op ≡ op_at p place
   pub skip : kept.skip ≡ skip p place
   pub short : kept.skip ≤ 24
   pub starts : kept.starts ≡ is_start p place
 
 -- so it is with each of a list, by its place
-abbrev pub AreKept : Program → List Place → Type 0
-AreKept p places = (place : ℕ) (other : Place) → place < length places → IsKept p place (get_or places place other)
+abbrev pub ArePlaces : Program → List Place → Type 0
+ArePlaces p places = (place : ℕ) (other : Place) → place < length places → IsPlace p place (get_or places place other)

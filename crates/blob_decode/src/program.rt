@@ -9,7 +9,7 @@ ghost use Rattle.pvm_isa.specs.Opcodes.{op_numbered};
 ghost use Rattle.pvm_isa.specs.Arguments.{IsWindow};
 ghost use Rattle.blob_decode.specs.Refusal.{IsPlaced};
 ghost use Rattle.blob_decode.specs.Fetched.{IsFetched};
-ghost use Rattle.blob_decode.specs.Kept.{FirstSet, LastSet, AreMarks, IsNearest, NoneNear, IsKept, AreKept};
+ghost use Rattle.blob_decode.specs.Kept.{FirstSet, LastSet, AreMarks, IsNearest, NoneNear, IsPlace, ArePlaces};
 ghost use Rattle.blob_decode.specs.Program.{program_blob, mask_bit, op_begins, op_at, gap, skip, next, is_start, ends_block, ends_before, some_below};
 ghost use Rattle.pvm_isa.specs.Arguments.{code_byte};
 
@@ -81,13 +81,13 @@ pub struct Fetched {
 impl Model for Program {
     ghost use Rattle.blob_decode.specs.Program.{Program};
     ghost use Rattle.std.specs.Prelude.{◌≤◌, ◌-◌, length};
-    ghost use Rattle.blob_decode.specs.Kept.{program_of, AreParts, AreMarks, AreKept};
+    ghost use Rattle.blob_decode.specs.Kept.{program_of, AreParts, AreMarks, ArePlaces};
 
     ghost Value = { Program };
 
     ghost view = { λ p. program_of p.count p.width p.table.items p.code.items p.mask.items };
 
-    ghost invariant = { λ p. AreParts p.count p.width p.table.items p.code.items p.mask.items × AreMarks (length p.code.items) p.mask.items p.marks.items × (p.windows ≤ length p.code.items - 7) × (p.windows ≤ length p.places.items) × AreKept (program_of p.count p.width p.table.items p.code.items p.mask.items) p.places.items };
+    ghost invariant = { λ p. AreParts p.count p.width p.table.items p.code.items p.mask.items × AreMarks (length p.code.items) p.mask.items p.marks.items × (p.windows ≤ length p.code.items - 7) × (p.windows ≤ length p.places.items) × ArePlaces (program_of p.count p.width p.table.items p.code.items p.mask.items) p.places.items };
 }
 
 // Four bytes of a mask as a number.
@@ -209,7 +209,7 @@ impl Program {
 
     // What stands at a place.
     fn place_at(&self, place: u64) -> Place
-        ensures { IsKept self.now place result }
+        ensures { IsPlace self.now place result }
     {
         Place {
             op: self.op_at(place),
@@ -221,7 +221,7 @@ impl Program {
     // What stands at each place.
     fn all_places(&self) -> Result<Vec<Place>, AllocError>
         ensures all { IfOk result (λ places. length places.items ≡ length self.now.code) }
-        ensures kept { IfOk result (λ places. AreKept self.now places.items) }
+        ensures kept { IfOk result (λ places. ArePlaces self.now places.items) }
     {
         let size = self.code().len();
         let mut places = Vec::with_capacity(*self.code.allocator(), size)?;
@@ -363,7 +363,7 @@ impl Program {
     // What is kept of a place, where the code has eight bytes from there on.
     #[inline(always)]
     fn kept(&self, place: u64) -> Option<Place>
-        ensures kept { IfSome result (IsKept self.now place) }
+        ensures kept { IfSome result (IsPlace self.now place) }
         ensures within { IfSome result (λ _. place + 8 ≤ length self.now.code) }
     {
         if place < self.windows {

@@ -1,6 +1,8 @@
 //! New, upgrade, transfer, eject, and the calls that always change the context.
 use crate::cases::*;
-use account_calls::{call_checkpoint, call_eject, call_new, call_transfer, call_upgrade, call_yield};
+use account_calls::{
+    call_checkpoint, call_eject, call_new, call_transfer, call_upgrade, call_yield,
+};
 use account_context::{Copies, Scope};
 use pvm_step::{Exit, HostStep};
 use std::alloc::{AllocError, Global};
@@ -9,6 +11,7 @@ const PANIC: HostStep = HostStep::End(Exit::Panic);
 
 /// The candidate of service 1 with an entropy of zeros at slot 1, and the next one.
 const FIRST: u64 = 1_318_567_118;
+
 const SECOND: u64 = 1_318_567_160;
 
 fn balance_of(scope: &Copies<'_>, id: u32) -> u64 {
@@ -34,8 +37,22 @@ fn new_makes_a_service_that_its_maker_pays_for(rt: HostRuntime) -> Result<(), Al
     let state = state(rt.alloc(), one, account(rt.alloc(), 0, 0))?;
     let mut scope = scope(rt.alloc(), &state)?;
     let rows: [([u64; 6], u64, HostStep, u64, u64, u64); 6] = [
-        ([FRONT, 4_294_967_296, 30, 40, 0, 0], 10, HostStep::Go, HUH, 0, 4_294_968_000),
-        ([FRONT, 4_294_967_295, 30, 40, 0, 0], 10, HostStep::Go, FIRST, 0, 504),
+        (
+            [FRONT, 4_294_967_296, 30, 40, 0, 0],
+            10,
+            HostStep::Go,
+            HUH,
+            0,
+            4_294_968_000,
+        ),
+        (
+            [FRONT, 4_294_967_295, 30, 40, 0, 0],
+            10,
+            HostStep::Go,
+            FIRST,
+            0,
+            504,
+        ),
         ([FRONT, 204, 30, 40, 0, 0], 10, HostStep::Go, CASH, 0, 504),
         ([FRONT, 203, 31, 41, 0, 0], 10, HostStep::Go, SECOND, 0, 100),
         ([0, 0, 30, 40, 0, 0], 10, PANIC, 0, 0, 100),
@@ -85,14 +102,38 @@ fn each_answer_of_transfer_costs_its_gas(rt: HostRuntime) -> Result<(), AllocErr
     // Target, amount, gas, memo; gas of the caller; the answer, register 7, what is left of it, the own balance, transfers.
     let rows: [([u64; 4], u64, HostStep, u64, [u64; 3]); 12] = [
         ([3, 5, 20, FRONT], 100, HostStep::Go, WHO, [70, 150, 0]),
-        ([4_294_967_298, 5, 20, FRONT], 100, HostStep::Go, WHO, [70, 150, 0]),
+        (
+            [4_294_967_298, 5, 20, FRONT],
+            100,
+            HostStep::Go,
+            WHO,
+            [70, 150, 0],
+        ),
         ([2, 999, 7, FRONT], 100, HostStep::Go, LOW, [83, 150, 0]),
         ([2, 51, 8, FRONT], 100, HostStep::Go, CASH, [82, 150, 0]),
-        ([2, 18_446_744_073_709_551_615, 8, FRONT], 100, HostStep::Go, CASH, [82, 150, 0]),
+        (
+            [2, 18_446_744_073_709_551_615, 8, FRONT],
+            100,
+            HostStep::Go,
+            CASH,
+            [82, 150, 0],
+        ),
         ([2, 5, 20, 77_700], 100, PANIC, 2, [70, 150, 0]),
         ([2, 5, 20, FRONT], 29, HostStep::Unpaid, 2, [0, 150, 0]),
-        ([2, 5, 18_446_744_073_709_551_615, FRONT], 18_446_744_073_709_551_615, HostStep::Unpaid, 2, [0, 150, 0]),
-        ([2, 5, 18_446_744_073_709_551_605, FRONT], 18_446_744_073_709_551_615, HostStep::Go, 0, [0, 145, 1]),
+        (
+            [2, 5, 18_446_744_073_709_551_615, FRONT],
+            18_446_744_073_709_551_615,
+            HostStep::Unpaid,
+            2,
+            [0, 150, 0],
+        ),
+        (
+            [2, 5, 18_446_744_073_709_551_605, FRONT],
+            18_446_744_073_709_551_615,
+            HostStep::Go,
+            0,
+            [0, 145, 1],
+        ),
         ([2, 45, 20, FRONT], 30, HostStep::Go, 0, [0, 100, 2]),
         ([2, 0, 8, FRONT], 18, HostStep::Go, 0, [0, 100, 3]),
         ([NONE, 0, 8, FRONT], 18, HostStep::Go, 0, [0, 100, 4]),
@@ -106,11 +147,16 @@ fn each_answer_of_transfer_costs_its_gas(rt: HostRuntime) -> Result<(), AllocErr
             balance_of(&scope, 1),
             scope.transfers().len() as u64,
         ];
-        assert!(rt; (step, machine.registers[7], found) == (wanted, word, after), "to {target} of {amount}");
+        assert!(rt;
+            (step, machine.registers[7], found) == (wanted, word, after),
+            "to {target} of {amount}"
+        );
     }
     match scope.transfers() {
         [_, second, _, last] => {
-            assert!(rt; (second.source, second.target, second.amount, second.gas) == (1, 2, 45, 20));
+            assert!(rt;
+                (second.source, second.target, second.amount, second.gas) == (1, 2, 45, 20)
+            );
             assert!(rt; (second.memo[0], second.memo[127], last.target) == (7, 7, 1));
         }
         _ => panic!(rt; "not four transfers"),
@@ -167,13 +213,19 @@ fn eject_takes_a_service_that_is_given_up_and_empty(rt: HostRuntime) -> Result<(
 
 #[test]
 fn upgrade_yield_and_checkpoint_change_the_context(rt: HostRuntime) -> Result<(), AllocError> {
-    let state = state(rt.alloc(), account(rt.alloc(), 0, 0), account(rt.alloc(), 0, 0))?;
+    let state = state(
+        rt.alloc(),
+        account(rt.alloc(), 0, 0),
+        account(rt.alloc(), 0, 0),
+    )?;
     let mut scope = scope(rt.alloc(), &state)?;
     let mut one = machine(rt.alloc(), &[5; 32], [FRONT, 30, 40, 0, 0, 0], 100)?;
     let step = call_upgrade(&mut one, &mut scope, 1)?;
     assert!(rt; (step, one.registers[7], one.ledger.left()) == (HostStep::Go, 0, 90));
     match scope.view(1) {
-        Some(view) => assert!(rt; (view.code_hash[0], view.min_accumulate, view.min_transfer) == (5, 30, 40)),
+        Some(view) => assert!(rt;
+            (view.code_hash[0], view.min_accumulate, view.min_transfer) == (5, 30, 40)
+        ),
         None => panic!(rt; "no own account"),
     }
     let mut two = machine(rt.alloc(), &[4; 32], [FRONT, 0, 0, 0, 0, 0], 10)?;

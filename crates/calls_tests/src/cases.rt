@@ -14,9 +14,13 @@ pub const NONE: u64 = 18_446_744_073_709_551_615;
 pub const WHAT: u64 = 18_446_744_073_709_551_614;
 
 pub const WHO: u64 = 18_446_744_073_709_551_612;
+
 pub const FULL: u64 = 18_446_744_073_709_551_611;
+
 pub const CASH: u64 = 18_446_744_073_709_551_609;
+
 pub const LOW: u64 = 18_446_744_073_709_551_608;
+
 pub const HUH: u64 = 18_446_744_073_709_551_607;
 
 /// The address of the first byte that may be written.

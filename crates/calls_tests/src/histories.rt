@@ -64,7 +64,10 @@ fn solicit_asks_where_the_balance_carries_it(rt: HostRuntime) -> Result<(), Allo
         let mut scope = scope(rt.alloc(), &state)?;
         let mut machine = machine(rt.alloc(), &abc(), [FRONT, length, 0, 0, 0, 0], 10)?;
         let step = call_solicit(&mut machine, &mut scope, 30)?;
-        assert!(rt; (step, machine.registers[7]) == (HostStep::Go, word), "balance {balance} length {length}");
+        assert!(rt;
+            (step, machine.registers[7]) == (HostStep::Go, word),
+            "balance {balance} length {length}"
+        );
         let found = match u32::try_from(length) {
             Ok(length) => scope.history(1, &abc(), length).is_some(),
             Err(_) => false,
@@ -93,7 +96,10 @@ fn forget_goes_by_the_history(rt: HostRuntime) -> Result<(), AllocError> {
         let mut scope = scope(rt.alloc(), &state)?;
         let mut machine = machine(rt.alloc(), &abc(), [FRONT, length, 0, 0, 0, 0], 10)?;
         let step = call_forget(&mut machine, &mut scope, slot)?;
-        assert!(rt; (step, machine.registers[7]) == (HostStep::Go, word), "length {length} at {slot}");
+        assert!(rt;
+            (step, machine.registers[7]) == (HostStep::Go, word),
+            "length {length} at {slot}"
+        );
         assert!(rt; kept(&scope) == wanted, "length {length} at {slot}");
     }
     Ok(())
@@ -124,8 +130,14 @@ fn provide_takes_what_is_awaited_once(rt: HostRuntime) -> Result<(), AllocError>
         let words = [service, FRONT, length, 0, 0, 0];
         let mut machine = machine(rt.alloc(), b"abc", words, 10)?;
         let step = call_provide(rt.alloc(), &mut machine, &mut scope, 1)?;
-        assert!(rt; (step, machine.registers[7]) == (HostStep::Go, word), "service {service} length {length}");
-        assert!(rt; scope.provided().len() == count, "service {service} length {length}");
+        assert!(rt;
+            (step, machine.registers[7]) == (HostStep::Go, word),
+            "service {service} length {length}"
+        );
+        assert!(rt;
+            scope.provided().len() == count,
+            "service {service} length {length}"
+        );
     }
     match scope.provided() {
         [first, last] => {

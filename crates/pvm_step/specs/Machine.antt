@@ -35,13 +35,14 @@ pub record IsAt (pc after_it skipped bytes : ℕ) (m : Machine) : Type 0 where
   pub short : skipped ≤ 24
   pub window : IsWindow m.program.code m.pc bytes
 
--- these are the two registers and the immediate that an instruction of them has where the machine stands
-pub record AreRead (a b x skipped : ℕ) (m : Machine) : Type 0 where
-  pub first : a ≡ (arguments F10 m.program.code m.pc skipped).a
-  pub second : b ≡ (arguments F10 m.program.code m.pc skipped).b
-  pub immediate : x ≡ (arguments F10 m.program.code m.pc skipped).x
+-- these are the two registers and the immediate that an instruction of them has where the machine stands, and the place after it
+pub record AreArguments (a b x after_it : ℕ) (m : Machine) : Type 0 where
+  pub first : a ≡ (arguments F10 m.program.code m.pc (skip m.program m.pc)).a
+  pub second : b ≡ (arguments F10 m.program.code m.pc (skip m.program m.pc)).b
+  pub immediate : x ≡ (arguments F10 m.program.code m.pc (skip m.program m.pc)).x
   pub low : a < 13
   pub high : b < 13
+  pub next : after_it ≡ next m.program m.pc
 
 -- what instructions leave: the program, the gas and the schedule
 pub record ChangesStateAlone (m n : Machine) : Type 0 where

@@ -8,7 +8,7 @@ ghost use Rattle.paged_memory.specs.PageMap.{is_width};
 ghost use Rattle.pvm_alu.specs.Alu as alu;
 ghost use Rattle.pvm_step.specs.Effect.{Grows, loads_at_x, loads_at_b_x, stores_y_at_x, stores_a_at_x, stores_y_at_a_x, stores_a_at_b_x, value_in, after, line, outcome};
 ghost use Rattle.pvm_step.specs.declared.attempt.Attempt.TheVariants.{Next};
-ghost use Rattle.pvm_step.specs.Machine.{IsAt, AreRead, ChangesStateAlone, state_of, after_of, exit_after, is_done};
+ghost use Rattle.pvm_step.specs.Machine.{IsAt, AreArguments, ChangesStateAlone, state_of, after_of, exit_after, is_done};
 
 use crate::address::{address, address_from};
 use crate::attempt::Attempt;
@@ -56,18 +56,14 @@ impl Machine {
         a: u8,
         b: u8,
         x: u64,
-        pc: u64,
         next: u64,
-        skip: u8,
-        bytes: u64,
     ) -> Attempt
         requires line { line op ≡ loads_at_b_x op }
         requires form { form_of op ≡ F10 }
         requires loads { IsTrue (alu.is_load op) }
         requires width { alu.loaded_bytes op ≡ width }
         requires size { IsTrue (is_width width) }
-        requires at { IsAt pc next skip bytes self.old }
-        requires read { AreRead a b x skip self.old }
+        requires read { AreArguments a b x next self.old }
         ensures acts { is_done result ≡ true → after_of self.new (exit_after result) ≡ outcome op self.old.program (state_of self.old) }
         ensures next { result ≡ Next → self.new.pc ≡ blob.next self.old.program self.old.pc }
         ensures same { result ≡ Attempt.Beyond → self.new ≡ self.old }
@@ -112,16 +108,12 @@ impl Machine {
         a: u8,
         b: u8,
         x: u64,
-        pc: u64,
         next: u64,
-        skip: u8,
-        bytes: u64,
     ) -> Attempt
         requires line { line op ≡ stores_a_at_b_x width }
         requires form { form_of op ≡ F10 }
         requires size { IsTrue (is_width width) }
-        requires at { IsAt pc next skip bytes self.old }
-        requires read { AreRead a b x skip self.old }
+        requires read { AreArguments a b x next self.old }
         ensures acts { is_done result ≡ true → after_of self.new (exit_after result) ≡ outcome op self.old.program (state_of self.old) }
         ensures next { result ≡ Next → self.new.pc ≡ blob.next self.old.program self.old.pc }
         ensures same { result ≡ Attempt.Beyond → self.new ≡ self.old }

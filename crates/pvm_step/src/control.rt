@@ -1,15 +1,15 @@
 // Instructions that jump, branch, call the host, or do nothing.
-ghost use Rattle.std.specs.Prelude.{◌≡◌, ◌+◌, IsTrue, true, IfOk, IsOk};
+ghost use Rattle.std.specs.Prelude.{◌≡◌, ◌<◌, ◌+◌, length, IsTrue, true, IfOk, IsOk};
 ghost use Rattle.pvm_isa.specs.Arguments.{arguments};
 ghost use Rattle.pvm_isa.specs.Opcodes.{form_of};
-ghost use Rattle.pvm_isa.specs.declared.form.Form.TheVariants.{F2, F6, F8, F11, F12};
+ghost use Rattle.pvm_isa.specs.declared.form.Form.TheVariants.{F2, F6, F8, F10, F11, F12};
 ghost use Rattle.pvm_isa.specs.declared.op.Op.TheVariants.{Fallthrough, Jump, JumpInd, LoadImmJump};
 ghost use Rattle.blob_decode.specs.Program as blob;
 ghost use Rattle.pvm_alu.specs.Alu as alu;
 ghost use Rattle.pvm_step.specs.declared.exit.Exit.TheVariants.{Host};
 ghost use Rattle.pvm_step.specs.Effect.{Exits, JumpsThrough, SetsAndJumpsThrough, branches_on_a_x, branches_on_a_b, line, after, address, value_in, outcome, lands};
 ghost use Rattle.pvm_step.specs.declared.attempt.Attempt.TheVariants.{Next};
-ghost use Rattle.pvm_step.specs.Machine.{IsAt, AreRead, ChangesStateAlone, state_of, after_of, exit_after, is_done};
+ghost use Rattle.pvm_step.specs.Machine.{IsAt, AreArguments, ChangesStateAlone, state_of, after_of, exit_after, is_done};
 
 use crate::address::address_from;
 use crate::attempt::Attempt;
@@ -160,8 +160,6 @@ impl Machine {
         &mut self,
         op: Op,
         a: u8,
-        b: u8,
-        x: u64,
         pc: u64,
         next: u64,
         skip: u8,
@@ -171,7 +169,8 @@ impl Machine {
         requires form { form_of op ≡ F8 }
         requires operation { IsTrue (alu.is_test op) }
         requires at { IsAt pc next skip bytes self.old }
-        requires read { AreRead a b x skip self.old }
+        requires first { a ≡ (arguments F10 self.old.program.code self.old.pc (blob.skip self.old.program self.old.pc)).a }
+        requires low { a < 13 }
         ensures acts { after_of self.new (exit_after result) ≡ outcome op self.old.program (state_of self.old) }
         ensures next { result ≡ Next → self.new.pc ≡ blob.next self.old.program self.old.pc }
         ensures done { is_done result ≡ true }
@@ -194,14 +193,13 @@ impl Machine {
         x: u64,
         pc: u64,
         next: u64,
-        skip: u8,
-        bytes: u64,
     ) -> Attempt
         requires line { line op ≡ branches_on_a_b op }
         requires form { form_of op ≡ F11 }
         requires operation { IsTrue (alu.is_test op) }
-        requires at { IsAt pc next skip bytes self.old }
-        requires read { AreRead a b x skip self.old }
+        requires here { pc ≡ self.old.pc }
+        requires within { self.old.pc < length self.old.program.code }
+        requires read { AreArguments a b x next self.old }
         ensures acts { after_of self.new (exit_after result) ≡ outcome op self.old.program (state_of self.old) }
         ensures next { result ≡ Next → self.new.pc ≡ blob.next self.old.program self.old.pc }
         ensures done { is_done result ≡ true }

@@ -8,7 +8,7 @@ ghost use Rattle.blob_decode.specs.Program as blob;
 ghost use Rattle.pvm_alu.specs.Alu as alu;
 ghost use Rattle.pvm_step.specs.Effect.{sets_of_a, sets_of_a_b, sets_of_b_x, line, outcome};
 ghost use Rattle.pvm_step.specs.declared.attempt.Attempt.TheVariants.{Next};
-ghost use Rattle.pvm_step.specs.Machine.{IsAt, ChangesStateAlone, state_of, after_of, exit_after, is_done};
+ghost use Rattle.pvm_step.specs.Machine.{IsAt, AreArguments, ChangesStateAlone, state_of, after_of, exit_after, is_done};
 
 use crate::attempt::Attempt;
 use crate::machine::Machine;
@@ -39,19 +39,18 @@ impl Machine {
 
     /// An operation with the value of a register and an immediate.
     #[inline(always)]
-    pub(crate) fn set_of_b_x(&mut self, op: Op, pc: u64, next: u64, skip: u8, bytes: u64) -> Attempt
+    pub(crate) fn set_of_b_x(&mut self, op: Op, a: u8, b: u8, x: u64, next: u64) -> Attempt
         requires line { line op ≡ sets_of_b_x op }
         requires form { form_of op ≡ F10 }
         requires operation { IsTrue (alu.is_binary op) }
-        requires at { IsAt pc next skip bytes self.old }
+        requires read { AreArguments a b x next self.old }
         ensures acts { after_of self.new (exit_after result) ≡ outcome op self.old.program (state_of self.old) }
         ensures next { result ≡ Next → self.new.pc ≡ blob.next self.old.program self.old.pc }
         ensures done { is_done result ≡ true }
         ensures rest { ChangesStateAlone self.old self.new }
     {
-        let args = two_registers_and_immediate_in(bytes, skip);
-        let value = binary(op, self.value(args.b), args.x);
-        self.set_and_go_on(args.a, value, next);
+        let value = binary(op, self.value(b), x);
+        self.set_and_go_on(a, value, next);
         Attempt::Next
     }
 

@@ -1,6 +1,6 @@
 use Rattle.std.proofs.Common.{◌≡◌, ◌∷◌, ◌++◌, [], List, ℕ, sym, subst, ap, ◌∙◌, arith, rules, length, length-append}
 use Rattle.blob_decode.specs.declared.place.Place.{Place}
-use Rattle.blob_decode.specs.Kept.{IsKept, AreKept}
+use Rattle.blob_decode.specs.Kept.{IsPlace, ArePlaces}
 use Rattle.blob_decode.proofs.KeptPlaces.{kept_more}
 use Rattle.blob_decode.proofs.program.Program.all_places.Goals as goal
 
@@ -11,6 +11,6 @@ each-preserved c =
     record {
       all = ap length pushed ∙ length-append c.each.places.items (c.place_at.result ∷ []) ∙ omega (arith, c.each.invariant.all);
       kept =
-          subst (AreKept c.args.self.now) (sym pushed)
-          (kept_more c.args.self.now c.each.places.items c.place_at.result c.each.invariant.kept (subst (λ (k : ℕ). IsKept c.args.self.now k c.place_at.result) here c.place_at.ensures));
+          subst (ArePlaces c.args.self.now) (sym pushed)
+          (kept_more c.args.self.now c.each.places.items c.place_at.result c.each.invariant.kept (subst (λ (k : ℕ). IsPlace c.args.self.now k c.place_at.result) here c.place_at.ensures));
     }

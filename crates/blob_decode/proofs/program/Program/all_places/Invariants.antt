@@ -1,9 +1,9 @@
 use Rattle.std.proofs.Common.{◌≡◌, length}
-use Rattle.blob_decode.specs.Kept.{AreKept}
+use Rattle.blob_decode.specs.Kept.{ArePlaces}
 use Rattle.blob_decode.proofs.program.Program.all_places.Given as goal
 
 abbrev pub invariant-each : goal.invariant-each
 invariant-each l = record {
   all : length l.places.items ≡ l.place;
-  kept : AreKept l.self l.places.items;
+  kept : ArePlaces l.self l.places.items;
 }

@@ -14,7 +14,7 @@ returns-then-test-clause-acts c =
     let p : Program = c.args.self.now.program in
     let s : MachineState = state_of c.args.self.now in
     let x = c.immediate_before_offset_in.ensures p.code s.pc c.args.skip c.requires.at.window in
-    let value = c.value.ensures ∙ ap (value_in s) c.requires.read.first in
+    let value = c.value.ensures ∙ ap (value_in s) c.requires.first in
     let holds : alu.test c.args.op (value_in s (arguments F8 p.code s.pc c.args.skip).a) (arguments F8 p.code s.pc c.args.skip).x ≡ true =
     (λ i. alu.test c.args.op (sym value i) (sym x i)) ∙ sym c.test.ensures ∙ c.if-test.true in
     c.jump_by_offset.ensures.landed
@@ -28,7 +28,7 @@ returns-clause-acts c =
     let p : Program = c.args.self.now.program in
     let s : MachineState = state_of c.args.self.now in
     let x = c.immediate_before_offset_in.ensures p.code s.pc c.args.skip c.requires.at.window in
-    let value = c.value.ensures ∙ ap (value_in s) c.requires.read.first in
+    let value = c.value.ensures ∙ ap (value_in s) c.requires.first in
     let fails : alu.test c.args.op (value_in s (arguments F8 p.code s.pc c.args.skip).a) (arguments F8 p.code s.pc c.args.skip).x ≡ false =
     (λ i. alu.test c.args.op (sym value i) (sym x i)) ∙ sym c.test.ensures ∙ c.if-test.false in
     let gone : after_of c.go_on.new.self None ≡ goes s (next p s.pc) = ap (λ (m : Machine). after_of m None) c.go_on.ensures in
