@@ -25,11 +25,10 @@ returns c = λ seen was.
       | else-len-ge-MOST_LINES w ↦ subst (IsReady seen) (sym w.self-is) (was.0, omega (arith, c.len.ensures, w.if-len-ge-MOST_LINES.false), was.2, was.3)
     ] in
     let pushed : c.push-kept.new.self.items ≡ c.if-len-ge-MOST_LINES.self.recent.items ++ (c.args.instruction ∷ []) =
-    c.push-kept.ensures.items ∙ if_ok c.push-kept.result _ _ (c.push-kept.ensures.succeeds (omega (arith, ready.1, ready.3))) in
-    (
+    c.push-kept.ensures.items ∙ if_ok c.push-kept.result _ _ (c.push-kept.ensures.succeeds (omega (arith, ready.1, ready.3))) in (
       alike_and_next 1000 seen (c.if-len-ge-MOST_LINES.self.before.items ++ c.if-len-ge-MOST_LINES.self.recent.items) c.args.instruction ready.0
-      ∙ ap (λ (l : List PaidInstruction). keep_last 1000 l) (append_assoc c.if-len-ge-MOST_LINES.self.before.items c.if-len-ge-MOST_LINES.self.recent.items (c.args.instruction ∷ []))
-      ∙ ap (λ (l : List PaidInstruction). keep_last 1000 (c.if-len-ge-MOST_LINES.self.before.items ++ l)) (sym pushed),
+          ∙ ap (λ (l : List PaidInstruction). keep_last 1000 l) (append_assoc c.if-len-ge-MOST_LINES.self.before.items c.if-len-ge-MOST_LINES.self.recent.items (c.args.instruction ∷ []))
+          ∙ ap (λ (l : List PaidInstruction). keep_last 1000 (c.if-len-ge-MOST_LINES.self.before.items ++ l)) (sym pushed),
       omega (arith, ready.1, c.push-kept.ensures.upper_bound),
       ready.2,
       omega (arith, ready.3, c.push-kept.ensures.capacity),
