@@ -1,6 +1,9 @@
 -- What is kept of a program blob, and the program that it stands for.
 use Rattle.std.specs.Prelude.{◌≡◌, ℕ, ◌+◌, ◌*◌, ◌/◌, ◌%◌, ◌^◌, ◌<◌, ◌≤◌, true, false, List, length, get_or}
 use Rattle.byte_numbers.specs.Numbers.{little_number, numbers, AreBytes}
+use Rattle.byte_numbers.specs.Signs.{extended_bytes}
+use Rattle.pvm_isa.specs.Arguments.{arguments}
+use Rattle.pvm_isa.specs.declared.form.Form.TheVariants.{F10}
 use Rattle.jam_codec.specs.Spelling.{binary_digits, bytes_for}
 use Rattle.blob_decode.specs.declared.place.Place.{Place}
 use Rattle.blob_decode.specs.Program.{Program, mask_bit, op_at, skip, is_start}
@@ -55,6 +58,11 @@ pub record LastSet (bits n : ℕ) : Type 0 where
 -- this is what stands at a place
 pub record IsPlace (p : Program) (place : ℕ) (kept : Place) : Type 0 where
   pub op : kept.op ≡ op_at p place
+  pub first : kept.a ≡ (arguments F10 p.code place (skip p place)).a
+  pub second : kept.b ≡ (arguments F10 p.code place (skip p place)).b
+  pub immediate : extended_bytes 4 kept.x ≡ (arguments F10 p.code place (skip p place)).x
+  pub low : kept.a < 13
+  pub high : kept.b < 13
   pub skip : kept.skip ≡ skip p place
   pub short : kept.skip ≤ 24
   pub starts : kept.starts ≡ is_start p place

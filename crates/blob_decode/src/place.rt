@@ -8,6 +8,11 @@ pub struct Place {
     pub op: Op,
     /// How many bytes of arguments it has, at most 24.
     pub skip: u8,
+    /// The numbers of registers A and B, and the lower half of the immediate X, as an instruction of two registers and
+    /// an immediate has them.
+    pub a: u8,
+    pub b: u8,
+    pub x: u32,
     /// Whether a block begins there.
     pub starts: bool,
 }

@@ -16,7 +16,10 @@ ghost use Rattle.pvm_isa.specs.Arguments.{code_byte};
 use crate::parts::{parts_of, push_lists};
 use crate::place::Place;
 use jam_codec::{Malformed, number_of, push_fixed, push_natural};
-use pvm_isa::{Op, code_window, is_terminator, op_of, op_or_trap, whole_window};
+use pvm_isa::{
+    Op, code_window, extended, is_terminator, op_of, op_or_trap, short_immediate_in,
+    two_registers_and_immediate_in, whole_window,
+};
 use std::alloc::{AllocError, Global};
 use std::marker::Model;
 use thiserror::Error;
@@ -74,6 +77,12 @@ pub struct Fetched {
     pub skip: u8,
     /// The place of the next instruction.
     pub next: u64,
+    /// The number of register A, as an instruction of two registers and an immediate has it, below 13.
+    pub a: u8,
+    /// That of register B.
+    pub b: u8,
+    /// The immediate X of such an instruction, with its sign in 64 bits.
+    pub x: u64,
     /// The number in the eight bytes of the code from there on. Past the code they are 0.
     pub bytes: u64,
 }
@@ -209,11 +218,18 @@ impl Program {
 
     // What stands at a place.
     fn place_at(&self, place: u64) -> Place
+        requires { place < length self.now.code }
         ensures { IsPlace self.now place result }
     {
+        let skip = self.skip(place);
+        let bytes = code_window(self.code(), place);
+        let args = two_registers_and_immediate_in(bytes, skip);
         Place {
             op: self.op_at(place),
-            skip: self.skip(place),
+            skip,
+            a: args.a,
+            b: args.b,
+            x: short_immediate_in(bytes, skip),
             starts: self.begins_block(place),
         }
     }
@@ -337,11 +353,16 @@ impl Program {
             none_begins()
         };
         let ahead = next_set(marks);
+        let skip = (ahead - 1) as u8;
+        let args = two_registers_and_immediate_in(bytes, skip);
         Fetched {
             op,
             pc: place,
-            skip: (ahead - 1) as u8,
+            skip,
             next: place + u64::from(ahead),
+            a: args.a,
+            b: args.b,
+            x: args.x,
             bytes,
         }
     }
@@ -385,6 +406,9 @@ impl Program {
                 pc,
                 skip: place.skip,
                 next: pc + 1 + u64::from(place.skip),
+                a: place.a,
+                b: place.b,
+                x: extended(place.x),
                 bytes: whole_window(code, pc),
             }),
             None => self.fetch_near_end(pc),

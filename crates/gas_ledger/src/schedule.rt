@@ -81,7 +81,8 @@ impl Schedule {
 
     /// Whether each form costs 1.
     pub fn has_plain_forms(&self) -> bool
-        ensures { IsTrue result ↔ (self.now.forms ≡ plain.forms) }
+        ensures plain { IsTrue result ↔ (self.now.forms ≡ plain.forms) }
+        ensures schedule { IsSchedule self.now }
     {
         self.forms == [1; 13]
     }

@@ -13,18 +13,21 @@ fn program_of(alloc: Global, blob: &[u8]) -> Result<Program, ProgramRefusal> {
     Program::deblob(alloc, blob)
 }
 
-// What is fetched is what the other calls say of the place, with these eight bytes.
-fn fetches(rt: &impl Abort, program: &Program, place: u64, bytes: Option<u64>) {
+// What is fetched is what the other calls say of the place, with these eight bytes, registers and immediate.
+fn fetches(rt: &impl Abort, program: &Program, place: u64, read: Option<(u64, u8, u8, u64)>) {
     let op = program.op_at(place);
     let skip = program.skip(place);
     let next = place.wrapping_add(1 + u64::from(skip));
     let fetched = program.fetch(place);
-    if let Some(bytes) = bytes {
+    if let Some((bytes, a, b, x)) = read {
         let wanted = Fetched {
             op,
             pc: place,
             skip,
             next,
+            a,
+            b,
+            x,
             bytes,
         };
         assert_eq!(rt; fetched, Some(wanted), "fetched at {place}");
@@ -63,18 +66,22 @@ fn a_program_is_read(rt: HostRuntime) -> Result<(), ProgramRefusal> {
         (10, true, Op::Trap, 0, false),
         (u64::MAX, true, Op::Trap, 0, false),
     ];
-    let bytes = [
-        (0, Some(0xff00_0000_332a_0733)),
-        (1, Some(0x32ff_0000_0033_2a07)),
-        (2, Some(0x0032_ff00_0000_332a)),
-        (3, Some(0x0000_32ff_0000_0033)),
-        (8, Some(0x32)),
-        (9, Some(0)),
+    // The eight bytes, registers A and B, and the immediate X of up to four bytes, as two registers and an immediate.
+    let read = [
+        (0, Some((0xff00_0000_332a_0733, 7, 0, 42))),
+        (1, Some((0x32ff_0000_0033_2a07, 10, 2, 0))),
+        (2, Some((0x0032_ff00_0000_332a, 3, 3, 0))),
+        (
+            3,
+            Some((0x0000_32ff_0000_0033, 0, 0, 0xffff_ffff_ffff_0000)),
+        ),
+        (8, Some((0x32, 0, 0, 0))),
+        (9, Some((0, 0, 0, 0))),
         (10, None),
         (u64::MAX, None),
     ];
-    for (place, bytes) in bytes {
-        fetches(&rt, &program, place, bytes);
+    for (place, read) in read {
+        fetches(&rt, &program, place, read);
     }
     for row in places {
         stands(&rt, &program, row);

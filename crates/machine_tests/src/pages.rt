@@ -119,6 +119,20 @@ fn a_store_goes_over_two_pages(rt: HostRuntime) -> Result<(), AllocError> {
     Ok(())
 }
 
+// tests/failing-stores runs it with each allocation failing in turn.
+#[test]
+fn a_store_over_two_pages_is_whole_or_changes_nothing(rt: HostRuntime) -> Result<(), StoreRefusal> {
+    let mut memory = pages(rt.alloc(), 2)?;
+    memory.store(69_624, 4, 77)?;
+    let end = memory.store(69_630, 4, 0x0403_0201);
+    loads(&rt, &memory, 69_624, 4, Ok(77));
+    match end {
+        Ok(()) => loads(&rt, &memory, 69_630, 4, Ok(0x0403_0201)),
+        Err(_) => loads(&rt, &memory, 69_630, 4, Ok(0)),
+    }
+    end
+}
+
 fn has_rights(rt: &impl Abort, memory: &Memory, page: u32, rights: Rights) {
     assert_eq!(rt; memory.rights(page), rights, "of page {page}");
 }

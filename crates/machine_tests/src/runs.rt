@@ -220,3 +220,29 @@ fn five_pages_are_stored_to(rt: HostRuntime) -> Result<(), Fail> {
     has_heap(&rt, &grown, 86_016, 1 << 20);
     Ok(())
 }
+
+// sbrk r2, r1.
+const SBRK: [u8; 6] = [0, 0, 2, 0x65, 0x12, 1];
+
+// tests/failing-stores runs it with each allocation failing in turn.
+#[test]
+fn a_heap_grows_or_all_is_as_before(rt: HostRuntime) -> Result<(), Fail> {
+    let heap = Heap::new(65_536, 1 << 20);
+    let mut grown = with_heap(rt.alloc(), &SBRK, 100, heap)?;
+    grown.registers[1] = 4096;
+    match grown.step() {
+        Ok(exit) => {
+            assert!(rt; exit.is_none());
+            is_at(&rt, &grown, 2, 99);
+            has_registers(&rt, &grown, &[(1, 4096), (2, 65_536)]);
+            has_heap(&rt, &grown, 69_632, 1 << 20);
+            Ok(())
+        }
+        Err(error) => {
+            is_at(&rt, &grown, 0, 100);
+            has_registers(&rt, &grown, &[(1, 4096), (2, 0)]);
+            has_heap(&rt, &grown, 65_536, 1 << 20);
+            Err(Fail::from(error))
+        }
+    }
+}

@@ -93,7 +93,7 @@ module _ (count : ℕ) (table : List (List (Option ℕ))) (frames : Slab (List �
         (length-overwritten (bytes_below count table frames) (page * 4096 + place) bytes there ∙ length-below count table frames) at
 
 -- a page with a byte that is not zero has a frame
-pub marked : (table : List (List (Option ℕ))) (frames : Slab (List ℕ)) (count page : ℕ) → (page + 1) * 4096 ≤ count → IsMarked (bytes_below count table frames) page → key_at table page ≢ None
+pub marked : (table : List (List (Option ℕ))) (frames : Slab (List ℕ)) (count page : ℕ) → (page + 1) * 4096 ≤ count → IsMarked (byte_of (bytes_below count table frames)) page → key_at table page ≢ None
 marked table frames count page within m e =
     let small : m.0 < 4096 = m.1 in
     let p : (page * 4096 + m.0) / 4096 ≡ page = omega arith in

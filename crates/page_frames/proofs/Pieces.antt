@@ -5,7 +5,7 @@ use Rattle.std.proofs.lemmas.Nat.{div-add-mod'}
 use Rattle.std.proofs.lemmas.List.{length-take-le, length-replicate, replicate-append-replicate, take_at, drop_at, drop-drop, drop_all}
 use Rattle.slab.specs.Slab.{Slab}
 use borrow.Rule.Slice.PartMut.{put_mid}
-use Rattle.page_frames.specs.PageBytes.{overwritten, zeroed, AreMarked}
+use Rattle.page_frames.specs.PageBytes.{byte_of, overwritten, zeroed, AreMarked}
 use Rattle.page_frames.specs.FrameTable.{zero_page, bytes_below, page_bytes, IsSound, PageChanged, HaveFrames, AreFramed}
 use Rattle.page_frames.specs.WrittenLaws.{written_on, nothing_written}
 use Rattle.page_frames.proofs.Bytes.{below_written, part_of_page, marked, frame_size}
@@ -79,5 +79,5 @@ pub framed_range : (table : List (List (Option ℕ))) (place n last : ℕ) → 0
 framed_range table place n last some e h page low high = h page low (omega (arith, e))
 
 pub marked_range : (table : List (List (Option ℕ))) (frames : Slab (List ℕ)) (place n last : ℕ) → 0 < n → place + n ≤ 2 ^ 32 → last ≡ (place + (n - 1)) / 4096
-    → AreMarked (bytes_below (2 ^ 32) table frames) place n → HaveFrames table (place / 4096) (last - place / 4096 + 1)
+    → AreMarked (byte_of (bytes_below (2 ^ 32) table frames)) place n → HaveFrames table (place / 4096) (last - place / 4096 + 1)
 marked_range table frames place n last some room e m page low high = marked table frames (2 ^ 32) page (omega (arith, e)) (m page low (omega (arith, e)))

@@ -17,10 +17,10 @@ overwritten memory place new = take place memory ++ new ++ drop (place + length 
 abbrev pub zeroed : List ℕ → ℕ → ℕ → List ℕ
 zeroed memory first count = overwritten memory (first * 4096) (replicate (count * 4096) 0)
 
--- some byte of a page is not zero
-abbrev pub IsMarked : List ℕ → ℕ → Type 0
-IsMarked memory page = (place : ℕ) × (place < 4096) × (byte_of memory (page * 4096 + place) ≢ 0)
+-- some byte of a page is not zero; the bytes are given by their addresses
+abbrev pub IsMarked : (ℕ → ℕ) → ℕ → Type 0
+IsMarked byte page = (place : ℕ) × (place < 4096) × (byte (page * 4096 + place) ≢ 0)
 
 -- so it is in each page that n bytes from a place on touch
-abbrev pub AreMarked : List ℕ → ℕ → ℕ → Type 0
-AreMarked memory place n = (page : ℕ) → place / 4096 ≤ page → page * 4096 < place + n → IsMarked memory page
+abbrev pub AreMarked : (ℕ → ℕ) → ℕ → ℕ → Type 0
+AreMarked byte place n = (page : ℕ) → place / 4096 ≤ page → page * 4096 < place + n → IsMarked byte page

@@ -86,7 +86,7 @@ impl Frames {
         requires { place + length bytes.now ≤ 2 ^ 32 }
         ensures ok { OnOk result (self.new ≡ overwritten self.old place bytes.now) }
         ensures err { OnErr result (self.new ≡ self.old) }
-        ensures held { AreMarked self.old place (length bytes.now) → IsOk result }
+        ensures held { AreMarked (byte_of self.old) place (length bytes.now) → IsOk result }
     {
         ranges::write(&mut self.table, &mut self.frames, place, bytes)
     }

@@ -1,6 +1,6 @@
 // The bytes of ranges over several pages.
 ghost use Rattle.std.specs.Prelude.{◌≡◌, ◌+◌, ◌%◌, ◌<◌, ◌≤◌, ◌^◌, true, false, OnOk, OnErr, IsOk, length, take, drop};
-ghost use Rattle.page_frames.specs.PageBytes.{overwritten, zeroed, AreMarked};
+ghost use Rattle.page_frames.specs.PageBytes.{byte_of, overwritten, zeroed, AreMarked};
 ghost use Rattle.page_frames.specs.FrameTable.{bytes_below, IsSound, SamePages, HaveFrames, AreFramed};
 
 use crate::frame::Frame;
@@ -64,7 +64,7 @@ pub fn write(
     ensures sound { IsSound table.new.items frames.new }
     ensures ok { OnOk result (bytes_below (2 ^ 32) table.new.items frames.new ≡ overwritten (bytes_below (2 ^ 32) table.old.items frames.old) place bytes.now) }
     ensures err { OnErr result (bytes_below (2 ^ 32) table.new.items frames.new ≡ bytes_below (2 ^ 32) table.old.items frames.old) }
-    ensures held { AreMarked (bytes_below (2 ^ 32) table.old.items frames.old) place (length bytes.now) → IsOk result }
+    ensures held { AreMarked (byte_of (bytes_below (2 ^ 32) table.old.items frames.old)) place (length bytes.now) → IsOk result }
 {
     if bytes.is_empty() {
         return Ok(());

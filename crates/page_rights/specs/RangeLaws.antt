@@ -1,16 +1,24 @@
 -- The rights of each page after those of a range were changed.
 use Rattle.std.proofs.Common.{◌≡◌, ℕ, zero, suc, ◌+◌, ◌-◌, ◌<◌, ◌≤◌, Bool, true, false, cond, List, [], ◌∷◌, ◌++◌, length, map, take, drop, replicate, get_or, refl, sym, ap, ◌∙◌, arith, length-append, length-drop}
-use Rattle.std.specs.Prelude.{nat_le, nat_lt, ◌&&◌}
+use Rattle.std.specs.Prelude.{nat_le, nat_lt, not, ◌&&◌, Some, None}
+use Rattle.std.specs.List.{position_from}
 use Rattle.std.proofs.lemmas.Bool.Decides.{nat_tests}
-use Rattle.std.proofs.lemmas.List.{length-replicate, length-map, length-take-le, get_or_append_left, get_or-append_right, get_or-replicate, get_or-take, get_or-drop}
+use Rattle.std.proofs.lemmas.List.{length-replicate, length-map, length-take-le, get_or_append_left, get_or-append_right, get_or-replicate, get_or-take, get_or-drop, ext_get_or}
 use Rattle.page_rights.specs.declared.rights.Rights.{Rights}
 use Rattle.page_rights.specs.declared.rights.Rights.TheVariants as may
-use Rattle.page_rights.specs.PageRights.{right_of_page, with_range, granted, lifted, lifted_range, pages_in, within}
+use Rattle.page_rights.specs.PageRights.{right_of_page, with_range, granted, lifted, lifted_range, lowest_below, pages_in, reaches, within}
 
 map-get : (xs : List Rights) (i : ℕ) → i < length xs → get_or (map lifted xs) i may.No ≡ lifted (get_or xs i may.No)
 map-get [] i h = absurd (omega arith)
 map-get (x ∷ xs) zero h = refl
 map-get (x ∷ xs) (suc i) h = map-get xs i (omega arith)
+
+-- what none of a list is, is not found
+none_found : (test : Rights → Bool) (other : Rights) (xs : List Rights) (from : ℕ) → ((i : ℕ) → i < length xs → test (get_or xs i other) ≡ false) → position_from test from xs ≡ None
+none_found test other [] from each = refl
+none_found test other (x ∷ xs) from each =
+    let first : test x ≡ false = each 0 (omega arith) in
+    ap (λ b. cond b (Some from) (position_from test (from + 1) xs)) first ∙ none_found test other xs (from + 1) (λ i l. each (suc i) (omega arith))
 
 module _ (pages : List Rights) (first count : ℕ) (fits : first + count ≤ length pages) where
   pub range_size : (range : List Rights) → length range ≡ count → length (with_range pages first count range) ≡ length pages
@@ -55,6 +63,26 @@ module _ (pages : List Rights) (first count : ℕ) (fits : first + count ≤ len
 
   pub range_long : length (pages_in pages first count) ≡ count
   range_long = length-take-le count (drop first pages) (omega (arith, length-drop first pages))
+
+  -- a page of the range by its place in it
+  pub page_in_range : (i : ℕ) → i < count → get_or (pages_in pages first count) i may.No ≡ right_of_page pages (first + i)
+  page_in_range i h = get_or-take count (drop first pages) i may.No h ∙ get_or-drop first pages i may.No
+
+  -- a range of which each page has the same rights
+  pub range_is : (to : Rights) → ((page : ℕ) → first ≤ page → page < first + count → right_of_page pages page ≡ to) → pages_in pages first count ≡ replicate count to
+  range_is to each =
+      ext_get_or may.No (pages_in pages first count) (replicate count to) (range_long ∙ sym (length-replicate count to))
+      (λ i l.
+      let inside : i < count = omega (arith, range_long) in
+      page_in_range i inside ∙ each (first + i) (omega arith) (omega arith) ∙ sym (get_or-replicate count i to may.No inside))
+
+  -- a range of which each page has the least rights
+  pub none_below : (least : Rights) → ((page : ℕ) → first ≤ page → page < first + count → reaches (right_of_page pages page) least ≡ true) → lowest_below pages first count least ≡ None
+  none_below least each =
+      none_found (λ rights. not (reaches rights least)) may.No (pages_in pages first count) first
+      (λ i l.
+      let inside : i < count = omega (arith, range_long) in
+      ap (λ r. not (reaches r least)) (page_in_range i inside) ∙ ap not (each (first + i) (omega arith) (omega arith)))
 
   pub lifted_long : length (map lifted (pages_in pages first count)) ≡ count
   lifted_long = length-map _ _ ∙ range_long

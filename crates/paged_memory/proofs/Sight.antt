@@ -1,5 +1,5 @@
 -- What is seen of the rights and bytes that are kept.
-use Rattle.std.proofs.Common.{◌≡◌, ◌≢◌, inl, inr, ℕ, zero, suc, ◌+◌, ◌*◌, ◌/◌, ◌%◌, ◌^◌, ◌<◌, ◌≤◌, List, [], ◌∷◌, length, take, drop, get_or, map, replicate, Some, refl, sym, ap, subst, ◌∙◌, arith, drop-cons}
+use Rattle.std.proofs.Common.{◌≡◌, ◌≢◌, inl, inr, ℕ, zero, suc, ◌+◌, ◌*◌, ◌/◌, ◌%◌, ◌^◌, ◌<◌, ◌≤◌, List, [], ◌∷◌, length, take, drop, get_or, map, replicate, Some, None, refl, sym, ap, subst, ◌∙◌, arith, drop-cons}
 use Rattle.std.specs.Ordering.{nat_cmp}
 use Rattle.std.specs.List.{All}
 use Rattle.std.specs.FinMap as fin
@@ -8,10 +8,11 @@ use Rattle.std.proofs.lemmas.List.{get_or_past, length-replicate}
 use Rattle.std.proofs.lemmas.List.Elements.{All-take, All-drop, All-replicate}
 use Rattle.page_rights.specs.declared.rights.Rights.{Rights}
 use Rattle.page_rights.specs.declared.rights.Rights.TheVariants as may
-use Rattle.page_rights.specs.PageRights.{none_granted, right_of_page}
-use Rattle.page_frames.specs.PageBytes.{all_zero}
+use Rattle.page_rights.specs.PageRights.{none_granted, right_of_page, pages_in, lowest_below, reaches}
+use Rattle.page_rights.specs.RangeLaws.{range_is, none_below}
+use Rattle.page_frames.specs.PageBytes.{all_zero, byte_of}
 use Rattle.paged_memory.specs.declared.pages.Pages.{Pages}
-use Rattle.paged_memory.specs.PageMap.{Read, Write, Page, Memory, HasWholePages, rights_in, rights, byte_in, byte, addresses, bytes_from}
+use Rattle.paged_memory.specs.PageMap.{AreMarked, HaveAlready, HaveRights, Read, Write, Page, Memory, HasWholePages, rights_in, rights, byte_in, byte, addresses, bytes_from}
 use Rattle.paged_memory.specs.Seen.{visible_as, placed, part_of, seen_from, seen, IsWhole}
 use Rattle.paged_memory.proofs.Maps.{alike, placed_there, placed_other}
 use Rattle.paged_memory.proofs.InPage.{split_address}
@@ -54,6 +55,20 @@ byte_seen p a whole =
     ap (λ o. byte_in o (a % 4096)) (got p.rights p.bytes (a / 4096))
     ∙ byte_visible (right_of_page p.rights (a / 4096)) (part_of p.bytes (a / 4096)) (a % 4096) (get_or p.bytes a 0)
     (part_byte p.bytes (a / 4096) (a % 4096) (omega arith) ∙ ap (λ n. get_or p.bytes n 0) (split_address a)) (whole.hidden a)
+
+-- bytes that are seen not to be zero are so
+pub marked_seen : (p : Pages) (a n : ℕ) → IsWhole p → AreMarked (byte (seen p)) a n → AreMarked (byte_of p.bytes) a n
+marked_seen p a n whole m page low high = let k = m page low high in (k.0, k.1, λ e. k.2 (byte_seen p (page * 4096 + k.0) whole ∙ e))
+
+-- pages that are seen to have these rights already
+pub have_already : (p : Pages) (first count : ℕ) (to : Rights) → IsWhole p → first + count ≤ 2 ^ 20 → HaveAlready (seen p) first count to → pages_in p.rights first count ≡ replicate count to
+have_already p first count to whole high have =
+    range_is p.rights first count (omega (arith, whole.pages)) to (λ q l h. sym (rights_seen p.rights p.bytes q) ∙ have q l h)
+
+-- pages that are seen to have some right
+pub none_lifted : (p : Pages) (first count : ℕ) → IsWhole p → first + count ≤ 2 ^ 20 → HaveRights (seen p) first count → lowest_below p.rights first count may.Read ≡ None
+none_lifted p first count whole high have =
+    none_below p.rights first count (omega (arith, whole.pages)) may.Read (λ q l h. sym (ap (λ r. reaches r may.Read) (rights_seen p.rights p.bytes q)) ∙ have q l h)
 
 same_Some : {A : Type 0} (x y : A) → Some x ≡ Some y → x ≡ y
 same_Some x y e = cc

@@ -7,6 +7,7 @@ use Rattle.std.specs.FinMap as fin
 use Rattle.byte_numbers.specs.Numbers.{little_number}
 use Rattle.page_rights.specs.declared.rights.Rights.{Rights}
 pub use Rattle.page_rights.specs.PageRights.{reaches}
+pub use Rattle.page_frames.specs.PageBytes.{AreMarked}
 use Rattle.page_rights.specs.declared.rights.Rights.TheVariants as may
 use Rattle.paged_memory.specs.declared.access.Access.{Access}
 use Rattle.paged_memory.specs.declared.access.Access.TheVariants.{Low, Fault}
@@ -190,3 +191,7 @@ HasRights m page = reaches (rights m page) may.Read ≡ true
 -- each of count pages from the first on has some right
 abbrev pub HaveRights : Memory → ℕ → ℕ → Type 0
 HaveRights m first count = (page : ℕ) → first ≤ page → page < first + count → HasRights m page
+
+-- each of count pages from the first on has these rights
+abbrev pub HaveAlready : Memory → ℕ → ℕ → Rights → Type 0
+HaveAlready m first count to = (page : ℕ) → first ≤ page → page < first + count → rights m page ≡ to

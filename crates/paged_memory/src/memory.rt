@@ -1,9 +1,9 @@
 // The memory as its callers see it.
-ghost use Rattle.std.specs.Prelude.{◌≡◌, ◌+◌, ◌≤◌, ◌<◌, ◌^◌, ◌↔◌, Some, None, Err, IsTrue, IfOk, OnOk, OnErr, length};
+ghost use Rattle.std.specs.Prelude.{◌≡◌, ◌+◌, ◌≤◌, ◌<◌, ◌^◌, ◌↔◌, [], Some, None, Err, IsTrue, IfOk, IsOk, OnOk, OnErr, length, if◌then◌else◌};
 ghost use Rattle.std.specs.FinMap as fin;
 ghost use Rattle.page_rights.specs.declared.rights.Rights.TheVariants as may;
 ghost use Rattle.byte_numbers.specs.Numbers.{little_endian};
-ghost use Rattle.paged_memory.specs.PageMap.{HasWholePages, HaveRights, rights, is_width, loaded, refusal, put_bytes, bytes_from, readable, writable, set_pages, lift_pages};
+ghost use Rattle.paged_memory.specs.PageMap.{HasWholePages, HaveRights, HaveAlready, AreMarked, rights, byte, is_width, loaded, refusal, put_bytes, bytes_from, readable, writable, set_pages, lift_pages};
 
 use crate::pages::Pages;
 use crate::{Access, Rights, StoreRefusal, reads, writes};
@@ -34,6 +34,12 @@ impl Model for Memory {
     ghost invariant = { λ m. IsWhole m.pages };
 }
 
+fn zeros(alloc: Global, count: u64) -> Result<Vec<u8>, AllocError>
+    ensures { IfOk result (λ bytes. length bytes.items ≡ count) }
+{
+    vec![in alloc; 0u8; count as usize]
+}
+
 impl Memory {
     /// No page has rights.
     pub fn new(alloc: Global) -> Memory
@@ -46,11 +52,6 @@ impl Memory {
                 bytes: Frames::new(alloc),
             },
         }
-    }
-
-    /// Where its memory comes from.
-    pub fn allocator(&self) -> Global {
-        self.alloc
     }
 
     /// The rights of a page, by its number.
@@ -79,8 +80,8 @@ impl Memory {
     /// Stores the `width` low bytes of a number, the lowest first. Addresses are modulo 2^32.
     ///
     /// # Errors
-    /// Access, by the rule of `load` for bytes that may not be written; NoMemory for want of memory.
-    /// No byte has changed then.
+    /// Access, by the rule of `load` for bytes that may not be written; NoMemory for want of memory, where some page was
+    /// never written. No byte has changed then.
     #[inline(always)]
     pub fn store(&mut self, addr: u32, width: u8, value: u64) -> Result<(), StoreRefusal>
         requires { IsTrue (is_width width) }
@@ -88,6 +89,7 @@ impl Memory {
         ensures allowed { OnOk result (refusal self.old may.Write addr width ≡ None) }
         ensures refused { (access : Access) → (result ≡ Err (StoreRefusal.Access access)) ↔ (refusal self.old may.Write addr width ≡ Some access) }
         ensures err { OnErr result (self.new ≡ self.old) }
+        ensures held { AreMarked (byte self.old) addr width → refusal self.old may.Write addr width ≡ None → IsOk result }
     {
         writes::store(&mut self.pages, addr, width, value)
     }
@@ -117,14 +119,31 @@ impl Memory {
         }
     }
 
+    /// A new list of bytes that may be read; where some may not, an empty one.
+    ///
+    /// # Errors
+    /// `AllocError` for want of memory.
+    pub fn copied(&self, addr: u64, n: u64) -> Result<Vec<u8>, AllocError>
+        ensures { IfOk result (λ bytes. bytes.items ≡ (if readable self.now addr n then bytes_from self.now addr n else [])) }
+    {
+        if !self.readable(addr, n) {
+            return Ok(Vec::new(self.alloc));
+        }
+        let mut bytes = zeros(self.alloc, n)?;
+        self.copy_out(addr, &mut bytes);
+        Ok(bytes)
+    }
+
     /// Writes bytes that may be written.
     ///
     /// # Errors
-    /// `AllocError` for want of memory; the memory is then as before.
+    /// `AllocError` for want of memory, where some page was never written; the memory is then as before. A page with a
+    /// byte that is not zero was written.
     pub fn copy_in(&mut self, addr: u64, bytes: &[u8]) -> Result<(), AllocError>
         requires { IsTrue (writable self.old addr (length bytes.now)) }
         ensures ok { OnOk result (self.new ≡ put_bytes self.old addr bytes.now) }
         ensures err { OnErr result (self.new ≡ self.old) }
+        ensures held { AreMarked (byte self.old) addr (length bytes.now) → IsOk result }
     {
         if bytes.is_empty() {
             return Ok(());
@@ -135,11 +154,12 @@ impl Memory {
     /// Writes bytes that may be read, to lay out pages that may not be written.
     ///
     /// # Errors
-    /// `AllocError` for want of memory; the memory is then as before.
+    /// `AllocError` for want of memory, as for `copy_in`; the memory is then as before.
     pub fn fill(&mut self, addr: u64, bytes: &[u8]) -> Result<(), AllocError>
         requires { IsTrue (readable self.old addr (length bytes.now)) }
         ensures ok { OnOk result (self.new ≡ put_bytes self.old addr bytes.now) }
         ensures err { OnErr result (self.new ≡ self.old) }
+        ensures held { AreMarked (byte self.old) addr (length bytes.now) → IsOk result }
     {
         if bytes.is_empty() {
             return Ok(());
@@ -151,7 +171,7 @@ impl Memory {
     /// No they become 0 in any case. Bytes are kept only of pages that have rights.
     ///
     /// # Errors
-    /// `AllocError` for want of memory; the memory is then as before.
+    /// `AllocError` for want of memory, where some page has other rights; the memory is then as before.
     pub fn set_pages(
         &mut self,
         first: u32,
@@ -164,6 +184,7 @@ impl Memory {
         requires kept { IsTrue keep → HaveRights self.old first count }
         ensures ok { OnOk result (self.new ≡ set_pages self.old first count rights keep) }
         ensures err { OnErr result (self.new ≡ self.old) }
+        ensures held { HaveAlready self.old first count rights → IsOk result }
     {
         writes::set_range(&mut self.pages, first, count, rights, keep)
     }
@@ -171,12 +192,13 @@ impl Memory {
     /// Lets each of `count` pages that has no rights be written, and makes it 0. Others stay.
     ///
     /// # Errors
-    /// `AllocError` for want of memory; the memory is then as before.
+    /// `AllocError` for want of memory, where some page has no rights; the memory is then as before.
     pub fn lift_pages(&mut self, first: u32, count: u32) -> Result<(), AllocError>
         requires low { 16 ≤ first }
         requires high { first + count ≤ 2 ^ 20 }
         ensures ok { OnOk result (self.new ≡ lift_pages self.old first count) }
         ensures err { OnErr result (self.new ≡ self.old) }
+        ensures held { HaveRights self.old first count → IsOk result }
     {
         writes::lift_range(&mut self.pages, first, count)
     }

@@ -1,8 +1,8 @@
 // What is written to the pages.
-ghost use Rattle.std.specs.Prelude.{◌≡◌, ◌+◌, ◌%◌, ◌≤◌, ◌<◌, ◌^◌, ◌↔◌, ◌&&◌, ℕ, true, false, Some, None, Err, IsTrue, OnOk, OnErr, length};
+ghost use Rattle.std.specs.Prelude.{◌≡◌, ◌+◌, ◌%◌, ◌≤◌, ◌<◌, ◌^◌, ◌↔◌, ◌&&◌, ℕ, true, false, Some, None, Err, IsTrue, IsOk, OnOk, OnErr, length};
 ghost use Rattle.page_rights.specs.declared.rights.Rights.TheVariants as may;
 ghost use Rattle.byte_numbers.specs.Numbers.{little_endian};
-ghost use Rattle.paged_memory.specs.PageMap.{is_width, has, reaches, put_bytes, refusal, set_pages, lift_pages, HaveRights};
+ghost use Rattle.paged_memory.specs.PageMap.{AreMarked, HaveAlready, is_width, has, byte, reaches, put_bytes, refusal, set_pages, lift_pages, HaveRights};
 ghost use Rattle.paged_memory.specs.Seen.{seen, IsWhole};
 
 use crate::pages::Pages;
@@ -18,6 +18,7 @@ pub fn put(held: &mut Pages, from: u32, bytes: &[u8]) -> Result<(), AllocError>
     requires whole { IsWhole held.old }
     ensures ok { OnOk result (seen held.new ≡ put_bytes (seen held.old) from bytes.now) }
     ensures err { OnErr result (seen held.new ≡ seen held.old) }
+    ensures held { AreMarked (byte (seen held.old)) from (length bytes.now) → IsOk result }
     ensures whole { IsWhole held.new }
 {
     held.bytes.write(from, bytes)
@@ -64,6 +65,7 @@ pub fn store(held: &mut Pages, addr: u32, width: u8, value: u64) -> Result<(), S
     ensures allowed { OnOk result (refusal (seen held.old) may.Write addr width ≡ None) }
     ensures refused { (access : Access) → (result ≡ Err (StoreRefusal.Access access)) ↔ (refusal (seen held.old) may.Write addr width ≡ Some access) }
     ensures err { OnErr result (seen held.new ≡ seen held.old) }
+    ensures held { AreMarked (byte (seen held.old)) addr width → refusal (seen held.old) may.Write addr width ≡ None → IsOk result }
     ensures whole { IsWhole held.new }
 {
     if put_at_once(held, addr, width, value) {
@@ -82,6 +84,7 @@ fn store_anywhere(held: &mut Pages, addr: u32, width: u8, value: u64) -> Result<
     ensures allowed { OnOk result (refusal (seen held.old) may.Write addr width ≡ None) }
     ensures refused { (access : Access) → (result ≡ Err (StoreRefusal.Access access)) ↔ (refusal (seen held.old) may.Write addr width ≡ Some access) }
     ensures err { OnErr result (seen held.new ≡ seen held.old) }
+    ensures held { AreMarked (byte (seen held.old)) addr width → refusal (seen held.old) may.Write addr width ≡ None → IsOk result }
     ensures whole { IsWhole held.new }
 {
     if let Some(access) = refusal(held, addr, width, Rights::Write) {
@@ -113,6 +116,7 @@ pub fn set_range(
     requires whole { IsWhole held.old }
     ensures ok { OnOk result (seen held.new ≡ set_pages (seen held.old) first count rights keep) }
     ensures err { OnErr result (seen held.new ≡ seen held.old) }
+    ensures held { HaveAlready (seen held.old) first count rights → IsOk result }
     ensures whole { IsWhole held.new }
 {
     held.rights.set(first, count, rights)?;
@@ -130,6 +134,7 @@ pub fn lift_range(held: &mut Pages, first: u32, count: u32) -> Result<(), AllocE
     requires whole { IsWhole held.old }
     ensures ok { OnOk result (seen held.new ≡ lift_pages (seen held.old) first count) }
     ensures err { OnErr result (seen held.new ≡ seen held.old) }
+    ensures held { HaveRights (seen held.old) first count → IsOk result }
     ensures whole { IsWhole held.new }
 {
     held.rights.lift(first, count)

@@ -6,7 +6,7 @@ ghost use Rattle.program_init.specs.Refusal.{argument_limit};
 ghost use Rattle.program_init.specs.Areas.{in_pages, in_zones, area, with_area, writable_start, first_memory};
 
 use crate::parts::Parts;
-use paged_memory::{Memory, Rights};
+use paged_memory::{Memory, Rights, accessible_laws, page_laws};
 use std::alloc::{AllocError, Global};
 
 const PAGE: u64 = 4096;
@@ -41,7 +41,6 @@ pub fn in_zones(n: u64) -> u64
 }
 
 // Lays an area out, with bytes at its front.
-#[tactic(auto, using(crate::proofs::AreaRights::area_readable))]
 fn lay_out(
     memory: &mut Memory,
     start: u64,
@@ -58,6 +57,9 @@ fn lay_out(
     ensures { OnOk result (memory.new ≡ with_area memory.old (area start size rights bytes.now)) }
 {
     memory.set_pages((start / PAGE) as u32, (size / PAGE) as u32, rights, false)?;
+    // By these laws the area's front may be read now.
+    page_laws();
+    accessible_laws();
     memory.fill(start, bytes)
 }
 

@@ -31,13 +31,14 @@ impl Model for Outcome {
 }
 
 // The bytes that a machine hands out that ended so.
+#[tactic(auto, unfolding(paged_memory::specs::PageMap::bytes_from))]
 fn handed_out(machine: &Machine, exit: Exit) -> Result<Vec<u8>, AllocError>
     ensures { IfOk result (λ bytes. bytes.items ≡ output_of (moment machine.now (Some exit))) }
 {
     match exit {
         Exit::Halt => machine.output(),
         Exit::Panic | Exit::OutOfGas | Exit::Fault(_) | Exit::Host(_) => {
-            Ok(Vec::new(machine.memory.allocator()))
+            machine.memory.copied(0, 0)
         }
     }
 }

@@ -1,6 +1,10 @@
 -- The bytes of a code in the number of eight of them.
-use Rattle.std.proofs.Common.{◌≡◌, ℕ, ◌-◌, ◌+◌, ◌*◌, ◌/◌, ◌%◌, ◌^◌, ◌≤◌, List, arith, ap, ◌∙◌}
-use Rattle.byte_numbers.specs.Numbers.{number_at}
+use Rattle.std.proofs.Common.{◌≡◌, ℕ, zero, suc, ◌-◌, ◌+◌, ◌*◌, ◌/◌, ◌%◌, ◌^◌, ◌<◌, ◌≤◌, List, arith, ap, sym, subst, ◌∙◌, inl, inr, lit<}
+use Rattle.std.proofs.Math.Nat.{pow-le-pow_right, pow-suc, mod-lt}
+use Rattle.std.proofs.lemmas.Bool.{cases_lt}
+use Rattle.byte_numbers.specs.SignLaws.{extended-positive, extended-negative, extended-fits}
+use Rattle.byte_numbers.specs.Signs.{extended_bits}
+use Rattle.byte_numbers.specs.Numbers.{AreBytes, number_at}
 use Rattle.byte_numbers.specs.NumberLaws.{number_at-step, number_at-few, number_at-later}
 use Rattle.byte_numbers.specs.Signs.{extended_bytes}
 use Rattle.pvm_isa.specs.Arguments.{IsWindow, code_byte, imm}
@@ -38,3 +42,40 @@ window-imm code place bytes from n is few within =
     ap (λ (x : ℕ). extended_bytes n (x / 2 ^ (8 * from) % 2 ^ (8 * n))) (is.number ∙ ap (number_at code place) split)
     ∙ ap (λ (x : ℕ). extended_bytes n (x % 2 ^ (8 * n))) (number_at-later code place from rest is.small)
     ∙ ap (extended_bytes n) (number_at-few rest code (place + from) n (omega (arith, within)) is.small)
+
+-- ---- The lower half of an immediate
+
+twice : (bits : ℕ) → 2 ^ bits ≤ 2 * 2 ^ (bits - 1)
+twice zero = omega arith
+twice (suc bits) =
+    let less : suc bits - 1 ≡ bits = omega arith in
+    let back : 2 ^ (suc bits - 1) ≡ 2 ^ bits = ap (λ (k : ℕ). 2 ^ k) less in
+    omega (arith, pow-suc 2 bits, back)
+
+-- a number of at most 32 bits with its sign is that of its lower half
+pub half-extended : (bits x : ℕ) → bits ≤ 32 → x < 2 ^ bits → extended_bits 32 (extended_bits bits x % 2 ^ 32) ≡ extended_bits bits x
+half-extended bits x few below =
+    let wide : bits ≤ 64 = omega arith in
+    let high : 2 ^ bits ≤ 2 ^ 32 = pow-le-pow_right {n = 2} (lit< tt) {i = bits} {j = 32} few in
+    let low : 2 ^ (bits - 1) ≤ 2 ^ 31 = pow-le-pow_right {n = 2} (lit< tt) {i = bits - 1} {j = 31} (omega arith) in
+    elim (cases_lt x (2 ^ (bits - 1))) [
+      | inl positive ↦
+          let same : extended_bits bits x ≡ x = extended-positive bits x positive in
+          let small : x < 2 ^ 31 = omega arith in
+          let half : extended_bits bits x % 2 ^ 32 ≡ x = omega (arith, same, small) in
+          ap (extended_bits 32) half ∙ extended-positive 32 x small ∙ sym same
+      | inr negative ↦
+          let lacks : 2 ^ 64 - extended_bits bits x ≡ 2 ^ bits - x = extended-negative bits x wide negative below in
+          let fits : extended_bits bits x < 2 ^ 64 = extended-fits bits x wide below in
+          let most : 2 ^ bits - x ≤ 2 ^ 31 = omega (arith, twice bits) in
+          let half : 2 ^ 31 ≤ extended_bits bits x % 2 ^ 32 = omega (arith, lacks, fits, most) in
+          let under : extended_bits bits x % 2 ^ 32 < 2 ^ 32 = omega arith in
+          omega (arith, lacks, fits, most, extended-negative 32 (extended_bits bits x % 2 ^ 32) (omega arith) half under, extended-fits 32 (extended_bits bits x % 2 ^ 32) (omega arith) under)
+    ]
+
+-- so it is with an immediate
+pub half-imm : (code : List ℕ) (place n : ℕ) → AreBytes code → n ≤ 4 → extended_bytes 4 (imm code place n % 2 ^ 32) ≡ imm code place n
+half-imm code place n small few =
+    let one : 1 ≤ 2 ^ (8 * n) = pow-le-pow_right {n = 2} (lit< tt) {i = 0} {j = 8 * n} (omega arith) in
+    let below : number_at code place n < 2 ^ (8 * n) = subst (λ (k : ℕ). k < 2 ^ (8 * n)) (number_at-few n code place n (omega arith) small) (mod-lt (number_at code place n) (omega (arith, one))) in
+    half-extended (8 * n) (number_at code place n) (omega arith) below

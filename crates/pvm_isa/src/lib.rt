@@ -21,7 +21,8 @@ pub use laws::opcode_laws;
 pub use op::Op;
 pub use opcodes::{form_of, is_terminator, name_of, number_of, op_named, op_of, op_or_trap};
 pub use windows::{
-    code_window, immediate_before_offset_in, register_and_immediate_in,
-    register_immediate_and_offset_in, three_registers_in, two_registers_and_immediate_in,
-    two_registers_and_offset_in, two_registers_in, whole_window,
+    code_window, extended, immediate_before_offset_in, register_and_immediate_in,
+    register_immediate_and_offset_in, short_immediate_in, target_of_offset_in, third_register_in,
+    three_registers_in, two_registers_and_immediate_in, two_registers_and_offset_in,
+    two_registers_in, whole_window,
 };

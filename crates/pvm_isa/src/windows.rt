@@ -1,7 +1,8 @@
 // The arguments that stand in eight bytes of the code, which are read as one number.
 ghost use Rattle.std.specs.Prelude.{◌≡◌, ◌<◌, ◌≤◌, ◌+◌, ◌-◌, ◌%◌, ◌^◌, ℕ, List, length};
-ghost use Rattle.pvm_isa.specs.declared.form.Form.TheVariants.{F6, F8, F9, F10, F11, F13};
-ghost use Rattle.pvm_isa.specs.Arguments.{IsWindow, arguments, code_byte, high, imm, low, register, short};
+ghost use Rattle.pvm_isa.specs.declared.form.Form.TheVariants.{F5, F6, F8, F9, F10, F11, F13};
+ghost use Rattle.byte_numbers.specs.Signs.{extended_bytes};
+ghost use Rattle.pvm_isa.specs.Arguments.{IsWindow, arguments, code_byte, high, imm, low, offset, register, short};
 
 use crate::arguments::{Args, NONE, first_length, register_immediate_and_offset};
 use crate::bytes::{at_distance, eight_at, eight_bytes, with_sign};
@@ -154,6 +155,41 @@ pub fn two_registers_and_immediate_in(bytes: u64, skip: u8) -> Args
         x: immediate_after_registers(bytes, skip),
         ..NONE
     }
+}
+
+/// The lower half of the immediate X of an instruction of two registers and an immediate, with these first eight bytes.
+/// The immediate has at most 4 bytes, so that `extended` gives it back.
+#[inline]
+pub fn short_immediate_in(bytes: u64, skip: u8) -> u32
+    ensures { (code : List ℕ) (pc : ℕ) → IsWindow code pc bytes → extended_bytes 4 result ≡ (arguments F10 code pc skip).x }
+{
+    (immediate_after_registers(bytes, skip) % (1 << 32)) as u32
+}
+
+/// A number of 32 bits with its sign, in 64 bits.
+#[inline(always)]
+pub fn extended(half: u32) -> u64
+    ensures { result ≡ extended_bytes 4 half }
+{
+    with_sign(u64::from(half), 4)
+}
+
+/// Where the offset of the instruction at `pc` leads, with these first eight bytes: of an instruction that has nothing else.
+#[inline(always)]
+pub fn target_of_offset_in(bytes: u64, pc: u64, skip: u8) -> Option<u64>
+    requires { pc < 2 ^ 63 }
+    ensures { (code : List ℕ) → IsWindow code pc bytes → result ≡ (arguments F5 code pc skip).target }
+{
+    at_distance(pc, immediate_at(bytes, 1, skip.min(4)))
+}
+
+/// The register D of an instruction of three registers, with these first eight bytes. It is below 13.
+#[inline(always)]
+pub fn third_register_in(bytes: u64) -> u8
+    ensures value { (code : List ℕ) (pc skip : ℕ) → IsWindow code pc bytes → result ≡ (arguments F13 code pc skip).d }
+    ensures bound { result < 13 }
+{
+    third_register(bytes)
 }
 
 /// Registers A and B and an offset to a target, of the instruction at `pc` with these first eight bytes.

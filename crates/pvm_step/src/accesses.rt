@@ -27,24 +27,23 @@ impl Machine {
         &mut self,
         op: Op,
         width: u8,
-        pc: u64,
+        a: u8,
+        b: u8,
+        x: u64,
         next: u64,
-        skip: u8,
-        bytes: u64,
     ) -> Attempt
         requires line { line op ≡ loads_at_x op }
         requires form { form_of op ≡ F6 }
         requires loads { IsTrue (alu.is_load op) }
         requires width { alu.loaded_bytes op ≡ width }
         requires size { IsTrue (is_width width) }
-        requires at { IsAt pc next skip bytes self.old }
+        requires read { AreArguments a b x next self.old }
         ensures acts { is_done result ≡ true → after_of self.new (exit_after result) ≡ outcome op self.old.program (state_of self.old) }
         ensures next { result ≡ Next → self.new.pc ≡ blob.next self.old.program self.old.pc }
         ensures same { result ≡ Attempt.Beyond → self.new ≡ self.old }
         ensures rest { ChangesStateAlone self.old self.new }
     {
-        let args = register_and_immediate_in(bytes, skip);
-        self.try_load(args.a, op, width, address(args.x), next)
+        self.try_load(a, op, width, address(x), next)
     }
 
     /// A load at an address in a register, with an offset, where it is not refused; else nothing.
@@ -79,23 +78,22 @@ impl Machine {
         &mut self,
         op: Op,
         width: u8,
-        pc: u64,
+        a: u8,
+        b: u8,
+        x: u64,
         next: u64,
-        skip: u8,
-        bytes: u64,
     ) -> Attempt
         requires line { line op ≡ stores_a_at_x width }
         requires form { form_of op ≡ F6 }
         requires size { IsTrue (is_width width) }
-        requires at { IsAt pc next skip bytes self.old }
+        requires read { AreArguments a b x next self.old }
         ensures acts { is_done result ≡ true → after_of self.new (exit_after result) ≡ outcome op self.old.program (state_of self.old) }
         ensures next { result ≡ Next → self.new.pc ≡ blob.next self.old.program self.old.pc }
         ensures same { result ≡ Attempt.Beyond → self.new ≡ self.old }
         ensures rest { ChangesStateAlone self.old self.new }
     {
-        let args = register_and_immediate_in(bytes, skip);
-        let value = self.value(args.a);
-        self.try_store(width, address(args.x), value, next)
+        let value = self.value(a);
+        self.try_store(width, address(x), value, next)
     }
 
     /// A store of a register at an address in another, with an offset, where it is neither refused nor wants memory;

@@ -17,8 +17,8 @@ use crate::exit::Exit;
 use crate::machine::Machine;
 use pvm_alu::test;
 use pvm_isa::{
-    Op, at_distance, immediate_before_offset_in, one_immediate, one_offset,
-    register_and_immediate_in, register_immediate_and_offset, register_immediate_and_offset_in,
+    Op, at_distance, immediate_before_offset_in, one_immediate, register_and_immediate_in,
+    register_immediate_and_offset, register_immediate_and_offset_in, target_of_offset_in,
     two_registers_and_two_immediates,
 };
 use std::alloc::AllocError;
@@ -52,7 +52,7 @@ impl Machine {
     }
 
     /// A jump.
-    #[inline(never)]
+    #[inline(always)]
     #[tactic(auto, unfolding(crate::specs::Effect::outcome, crate::specs::Effect::line, crate::specs::Effect::after, pvm_isa::specs::Opcodes::entry))]
     pub(crate) fn jump_on(&mut self, pc: u64, next: u64, skip: u8, bytes: u64) -> Attempt
         requires at { IsAt pc next skip bytes self.old }
@@ -61,22 +61,22 @@ impl Machine {
         ensures done { is_done result ≡ true }
         ensures rest { ChangesStateAlone self.old self.new }
     {
-        let args = one_offset(self.program.code(), pc, skip);
-        self.jump(args.target)
+        // The code is shorter than 2^63.
+        let _code = self.program.code();
+        self.jump(target_of_offset_in(bytes, pc, skip))
     }
 
     /// A jump through the jump table, where it does not halt; else nothing.
     #[inline(never)]
-    #[tactic(auto, unfolding(crate::specs::Effect::outcome, crate::specs::Effect::line, crate::specs::Effect::after, pvm_isa::specs::Opcodes::entry))]
-    pub(crate) fn try_jump_ind(&mut self, pc: u64, next: u64, skip: u8, bytes: u64) -> Attempt
-        requires at { IsAt pc next skip bytes self.old }
+    #[tactic(auto, unfolding(crate::specs::Effect::outcome, crate::specs::Effect::line, crate::specs::Effect::after, pvm_isa::specs::Opcodes::entry, pvm_isa::specs::Arguments::arguments))]
+    pub(crate) fn try_jump_ind(&mut self, a: u8, b: u8, x: u64, next: u64) -> Attempt
+        requires { AreArguments a b x next self.old }
         ensures acts { is_done result ≡ true → after_of self.new (exit_after result) ≡ outcome JumpInd self.old.program (state_of self.old) }
         ensures next { result ≡ Next → self.new.pc ≡ blob.next self.old.program self.old.pc }
         ensures same { result ≡ Attempt.Beyond → self.new ≡ self.old }
         ensures rest { ChangesStateAlone self.old self.new }
     {
-        let args = register_and_immediate_in(bytes, skip);
-        let through = address_from(self.value(args.a), args.x);
+        let through = address_from(self.value(a), x);
         match self.jump_through(through) {
             None => Attempt::Jumped,
             Some(Exit::Panic) => Attempt::Panics,

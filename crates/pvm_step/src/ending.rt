@@ -1,6 +1,5 @@
 // Runs to the end.
 ghost use Rattle.std.specs.Prelude.{◌≡◌, ◌+◌, ◌<◌, ◌^◌, ℕ, true, None, Some, IfOk, OnErr};
-ghost use Rattle.gas_ledger.specs.Schedule.{IsSchedule};
 ghost use Rattle.pvm_step.specs.Effect.{act_at};
 ghost use Rattle.pvm_step.specs.History.{reached, answer, history, states};
 ghost use Rattle.pvm_step.specs.Machine.{state_of, moment};
@@ -13,16 +12,6 @@ use crate::watcher::Watcher;
 use std::alloc::AllocError;
 
 impl Machine {
-    // Each instruction costs something, and the gas is below 2^64.
-    #[inline(always)]
-    fn is_bounded(&self)
-        ensures schedule { IsSchedule self.now.costs }
-        ensures gas { self.now.gas < 2 ^ 64 }
-    {
-        let _costs = self.costs.forms();
-        let _left = self.ledger.left();
-    }
-
     /// Runs to the end, and tells the watcher of each instruction that is paid, in their order and numbered from 1.
     ///
     /// # Errors
@@ -36,7 +25,6 @@ impl Machine {
             × WasTold W.HasSeen watcher.old watcher.new (paid_instructions 1 self.old.program (states (n + 1) self.old.program (moment self.old None)))) }
         ensures wants { OnErr result (changes_memory (act_at self.new.program (state_of self.new)) ≡ true) }
     {
-        self.is_bounded();
         match self.run_watched(u64::MAX, watcher)? {
             Progress::Ended(exit) => Ok(exit),
             // So many instructions cost all the gas that there can be.

@@ -1,7 +1,7 @@
 // A machine that runs a program.
-ghost use Rattle.std.specs.Prelude.{◌≡◌, ◌<◌, ◌≤◌, ◌+◌, ℕ, true, false, None, Some, length, replicate, IfOk, IfSome, IfNone, OnErr};
+ghost use Rattle.std.specs.Prelude.{◌≡◌, ◌<◌, ◌≤◌, ◌+◌, ◌^◌, ℕ, true, false, None, Some, length, replicate, IfOk, IfSome, IfNone, OnErr};
 ghost use Rattle.std.specs.FinMap as fin;
-ghost use Rattle.gas_ledger.specs.Schedule.{plain};
+ghost use Rattle.gas_ledger.specs.Schedule.{IsSchedule, plain};
 ghost use Rattle.pvm_isa.specs.declared.op.Op.TheVariants.{Ecalli};
 ghost use Rattle.blob_decode.specs.Program.{op_at, next};
 ghost use Rattle.blob_decode.specs.Fetched.{IsFetched};
@@ -46,12 +46,6 @@ impl Model for Machine {
     ghost coded = { coded_machine };
 
     ghost view = { λ m. record { program = m.program.value; pc = m.pc; registers = m.registers; memory = m.memory; heap = m.heap; gas = m.ledger; costs = m.costs } };
-}
-
-fn zeros(alloc: Global, count: u64) -> Result<Vec<u8>, AllocError>
-    ensures { IfOk result (λ bytes. length bytes.items ≡ count) }
-{
-    vec![in alloc; 0u8; count as usize]
 }
 
 // The exit where the gas does not pay. It is out of the way, so that the compiler expects the loop of a run to go on.
@@ -108,7 +102,9 @@ impl Machine {
         ensures beyond { result ≡ Attempt.Beyond → on_registers at.op ≡ false }
         ensures rest { ChangesStateAlone self.old self.new }
     {
-        self.act_on_registers::<PLAIN, W>(at.op, at.pc, at.next, at.skip, at.bytes)
+        self.act_on_registers::<PLAIN, W>(
+            at.op, at.pc, at.next, at.skip, at.bytes, at.a, at.b, at.x,
+        )
     }
 
     // Another instruction.
@@ -231,6 +227,7 @@ impl Machine {
         ensures wants { OnErr result.1 (changes_memory (act_at self.new.program (state_of self.new)) ≡ true) }
         ensures gas { result.0 ≤ self.old.gas }
         ensures rest { ChangesStateAlone self.old self.new }
+        ensures schedule { IsSchedule self.old.costs }
     {
         if self.costs.has_plain_forms() {
             self.go::<true, W>(fuel, watcher)
@@ -242,7 +239,8 @@ impl Machine {
     // Takes gas, so that so much is left.
     fn pay(&mut self, left: u64)
         requires { left ≤ self.old.gas }
-        ensures { self.new ≡ record self.old { gas = left } }
+        ensures paid { self.new ≡ record self.old { gas = left } }
+        ensures gas { self.old.gas < 2 ^ 64 }
     {
         let gas = self.ledger.left();
         let _paid = self.ledger.charge(gas - left);
@@ -301,6 +299,8 @@ impl Machine {
         ensures err { OnErr result ((n : ℕ) × (n < fuel) × (moment self.new None ≡ reached n self.old.program (moment self.old None))
             × WasTold W.HasSeen watcher.old watcher.new (paid_instructions 1 self.old.program (states (n + 1) self.old.program (moment self.old None)))) }
         ensures wants { OnErr result (changes_memory (act_at self.new.program (state_of self.new)) ≡ true) }
+        ensures schedule { IsSchedule self.old.costs }
+        ensures gas { self.old.gas < 2 ^ 64 }
     {
         let (left, exit) = self.go_on_schedule(fuel, watcher);
         self.pay(left);
@@ -330,13 +330,6 @@ impl Machine {
     pub fn output(&self) -> Result<Vec<u8>, AllocError>
         ensures { IfOk result (λ bytes. bytes.items ≡ output (state_of self.now)) }
     {
-        let from = self.registers[7];
-        let count = self.registers[8];
-        if !self.memory.readable(from, count) {
-            return Ok(Vec::new(self.memory.allocator()));
-        }
-        let mut bytes = zeros(self.memory.allocator(), count)?;
-        self.memory.copy_out(from, &mut bytes);
-        Ok(bytes)
+        self.memory.copied(self.registers[7], self.registers[8])
     }
 }

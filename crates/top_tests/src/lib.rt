@@ -5,3 +5,5 @@
 mod arguments;
 #[cfg(test)]
 mod calls;
+#[cfg(test)]
+mod states;

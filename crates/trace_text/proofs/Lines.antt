@@ -44,3 +44,12 @@ unfolding register_lines
 registers_all lines old k xs h before =
     let none : drop k xs ≡ [] = drop_of_length-le xs h in
     sym (append-nil lines) ∙ ap (λ b. lines ++ register_lines k b) (sym none) ∙ before
+
+-- a line that is put behind a text, before others
+pub text_pushed : (text next : List ℕ) (line : Line) (rest : List Line) → next ≡ text ++ line_bytes line → next ++ text_of rest ≡ text ++ text_of (line ∷ rest)
+unfolding text_of
+text_pushed text next line rest e = ap (λ b. b ++ text_of rest) e ∙ append_assoc text (line_bytes line) (text_of rest)
+
+pub text_done : (text : List ℕ) → text ++ text_of [] ≡ text
+unfolding text_of
+text_done text = append-nil text

@@ -1,52 +1,60 @@
 // A watcher that keeps the last instructions of a run.
 ghost use Rattle.std.specs.Prelude.{◌≡◌, ◌++◌, ◌≤◌, [], IfOk, length, vec_len, vec_capacity};
 ghost use Rattle.circular_buffer.specs.Buffer.{keep_last};
-ghost use Rattle.trace_text.specs.Traces.{most_lines};
 
 use circular_buffer::HeapCircularBuffer;
 use pvm_step::{PaidInstruction, Watcher};
 use std::alloc::{AllocError, Global};
 use std::mem;
 
-/// How many instructions are kept.
-const MOST_LINES: usize = 1000;
-
-/// The instructions that were seen last, in a list that is filled up to 1,000, and the 1,000 right before them, if there
-/// are so many. So one more is put at the end of a list, and no other is moved.
-#[derive(Drop)]
-pub struct LastInstructions {
-    pub before: Vec<PaidInstruction>,
-    pub recent: Vec<PaidInstruction>,
+/// An instruction as it is kept: its opcode is found again in the program.
+#[derive(Clone, Copy)]
+pub struct KeptInstruction {
+    pub number: u64,
+    pub pc: u64,
+    pub gas: u64,
 }
 
-impl Watcher for LastInstructions {
-    ghost use Rattle.std.specs.Prelude.{◌≡◌, ◌++◌, ◌≤◌, vec_len, vec_capacity};
+/// The instructions that were seen last, in a list that is filled up to so many, and as many right before them, if there
+/// are. So one more is put at the end of a list, and no other is moved.
+#[derive(Drop)]
+pub struct LastInstructions<const ROOM: usize> {
+    pub before: Vec<KeptInstruction>,
+    pub recent: Vec<KeptInstruction>,
+}
+
+impl<const ROOM: usize> Watcher for LastInstructions<ROOM> {
+    ghost use Rattle.std.specs.Prelude.{◌≡◌, ◌++◌, ◌≤◌, map, vec_len, vec_capacity};
+    ghost use Rattle.trace_text.specs.Traces.{kept_of};
     ghost use Rattle.circular_buffer.specs.Buffer.{keep_last};
     ghost use Rattle.pvm_step.specs.declared.watcher.PaidInstruction.{PaidInstruction};
-    ghost use Rattle.trace_text.specs.Traces.{most_lines};
 
-    ghost HasSeen = { λ w seen. (keep_last most_lines seen ≡ keep_last most_lines (w.before.items ++ w.recent.items)) × (vec_len w.recent ≤ most_lines) × (most_lines ≤ vec_capacity w.before) × (most_lines ≤ vec_capacity w.recent) };
+    ghost HasSeen = { λ w seen. (keep_last ROOM (map kept_of seen) ≡ keep_last ROOM (w.before.items ++ w.recent.items)) × (vec_len w.recent ≤ ROOM) × (ROOM ≤ vec_capacity w.before) × (ROOM ≤ vec_capacity w.recent) × (1 ≤ ROOM) };
 
     #[inline(always)]
     fn see(&mut self, instruction: PaidInstruction) {
-        if self.recent.len() >= MOST_LINES {
+        if self.recent.len() >= ROOM {
             self.turn();
         }
-        let _kept = self.recent.push(instruction);
+        let _kept = self.recent.push(KeptInstruction {
+            number: instruction.number,
+            pc: instruction.pc,
+            gas: instruction.gas,
+        });
     }
 }
 
-impl LastInstructions {
+impl<const ROOM: usize> LastInstructions<ROOM> {
     /// Nothing was seen yet.
-    pub fn new(alloc: Global) -> Result<LastInstructions, AllocError>
+    pub fn new(alloc: Global) -> Result<LastInstructions<ROOM>, AllocError>
         ensures before { IfOk result (λ w. w.before.items ≡ []) }
         ensures recent { IfOk result (λ w. w.recent.items ≡ []) }
         ensures empty { IfOk result (λ w. vec_len w.recent ≡ 0) }
-        ensures room { IfOk result (λ w. (most_lines ≤ vec_capacity w.before) × (most_lines ≤ vec_capacity w.recent)) }
+        ensures room { IfOk result (λ w. (ROOM ≤ vec_capacity w.before) × (ROOM ≤ vec_capacity w.recent)) }
     {
         Ok(LastInstructions {
-            before: Vec::with_capacity(alloc, MOST_LINES)?,
-            recent: Vec::with_capacity(alloc, MOST_LINES)?,
+            before: Vec::with_capacity(alloc, ROOM)?,
+            recent: Vec::with_capacity(alloc, ROOM)?,
         })
     }
 
@@ -68,7 +76,7 @@ impl LastInstructions {
     ///
     /// # Errors
     /// Want of memory.
-    pub fn last(&self, alloc: Global, count: usize) -> Result<Vec<PaidInstruction>, AllocError>
+    pub fn last(&self, alloc: Global, count: usize) -> Result<Vec<KeptInstruction>, AllocError>
         ensures { IfOk result (λ last. last.items ≡ keep_last count (self.now.before.items ++ self.now.recent.items)) }
     {
         let mut ring = HeapCircularBuffer::with_capacity(alloc, count)?;

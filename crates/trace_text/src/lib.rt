@@ -13,5 +13,5 @@ pub use front::Front;
 pub use line::Line;
 pub use outcome::outcome_lines;
 pub use spelling::spell_lines;
-pub use state::state_lines;
+pub use state::{spell_state, state_lines};
 pub use tracing::{TraceOutcome, trace};

@@ -181,7 +181,7 @@ fn push_account(
     )
 }
 
-fn push_line(alloc: Global, text: &mut String, line: &Line) -> Result<(), AllocError>
+pub fn push_line(alloc: Global, text: &mut String, line: &Line) -> Result<(), AllocError>
     ensures { OnOk result (string_bytes text.new ≡ string_bytes text.old ++ line_bytes line.now) }
 {
     match line {

@@ -2,6 +2,7 @@ use Rattle.std.proofs.Common.{◌∙◌, ap, sym}
 use Rattle.paged_memory.specs.PageMap.{set_pages}
 use Rattle.paged_memory.specs.Seen.{seen, seen_from}
 use Rattle.paged_memory.proofs.Ranges.{not_kept, is_kept, set_kept, set_zeroed, whole_kept, whole_zeroed}
+use Rattle.paged_memory.proofs.Sight.{have_already}
 use Rattle.paged_memory.proofs.Writing.{whole_by}
 use Rattle.paged_memory.proofs.writes.set_range.Goals as goal
 
@@ -25,3 +26,8 @@ returns-clause-ok c =
 
 pub returns-clause-whole : goal.returns-clause-whole
 returns-clause-whole c = whole_by _ c.set.new.self c.zero.new.self c.in_ok-set.ensures.ok c.zero.ensures (whole_zeroed c.args.held.now c.args.first c.args.count c.requires.whole c.requires.low c.requires.high c.args.rights)
+
+pub returns-in_err-set-clause-held : goal.returns-in_err-set-clause-held
+returns-in_err-set-clause-held c have =
+    let never = c.in_err-set.ensures.held (have_already c.args.held.now c.args.first c.args.count c.args.rights c.requires.whole c.requires.high have) in
+    absurd (cc)

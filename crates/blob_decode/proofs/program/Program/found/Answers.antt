@@ -1,5 +1,8 @@
-use Rattle.std.proofs.Common.{arith, ◌-◌, ◌≡◌, ◌%◌, true, false, refl, sym, ◌∙◌}
+use Rattle.std.proofs.Common.{arith, ◌-◌, ◌≡◌, ◌%◌, true, false, refl, sym, ap, ◌∙◌}
 use Rattle.std.proofs.lemmas.Bool.{eq-eqb, ne_eqb}
+use Rattle.pvm_isa.specs.Arguments.{arguments}
+use Rattle.pvm_isa.specs.declared.arguments.Args.{Args}
+use Rattle.pvm_isa.specs.declared.form.Form.TheVariants.{F10}
 use Rattle.pvm_isa.specs.WindowLaws.{first-byte}
 use Rattle.blob_decode.specs.Program.{mask_bit, op_at, skip}
 use Rattle.blob_decode.proofs.KeptLaws.{op_at-begun, op_at-none}
@@ -10,6 +13,8 @@ pub returns : goal.returns
 returns c =
     let skips : skip c.args.self.now c.args.place ≡ c.next_set-ahead.result - 1 =
     c.marks_from-marks.ensures.next (c.next_set-ahead.result - 1) (c.next_set-ahead.ensures.first (c.next_set-ahead.result - 1) (omega (arith, c.next_set-ahead.ensures.some))) in
+    let read : c.two_registers_and_immediate_in-args.result ≡ arguments F10 c.args.self.now.code c.args.place (skip c.args.self.now c.args.place) =
+    c.two_registers_and_immediate_in-args.ensures.arguments c.args.self.now.code c.args.place c.requires.window ∙ ap (arguments F10 c.args.self.now.code c.args.place) (sym skips) in
     record {
       within = c.requires.within;
       here = refl;
@@ -23,6 +28,11 @@ returns c =
             w.op-is ∙ w.none_begins-op.ensures ∙ op_at-none c.args.self.now c.args.place none
       ];
       next = omega (arith, skips, c.next_set-ahead.ensures.some, c.from.ensures);
+      first = ap {A = Args} (λ r. r.a) read;
+      second = ap {A = Args} (λ r. r.b) read;
+      immediate = ap {A = Args} (λ r. r.x) read;
+      low = c.two_registers_and_immediate_in-args.ensures.a;
+      high = c.two_registers_and_immediate_in-args.ensures.b;
       skip = sym skips;
       short = omega (arith, c.next_set-ahead.ensures.most);
       window = c.requires.window;

@@ -1,17 +1,20 @@
-use Rattle.std.proofs.Common.{rules, ◌≡◌, ℕ, None, ap, sym, ◌∙◌}
+use Rattle.std.proofs.Common.{◌≡◌, ℕ, ap, sym, ◌∙◌}
 use Rattle.pvm_isa.specs.Arguments.{arguments}
 use Rattle.pvm_isa.specs.declared.form.Form.TheVariants.{F9}
+use Rattle.pvm_alu.specs.Alu as alu
 use Rattle.blob_decode.specs.Program.{Program}
-use Rattle.pvm_step.specs.Effect.{MachineState, sets_of_a, after}
+use Rattle.pvm_step.specs.Effect.{MachineState, Sets, sets_of_a, after, value_in}
 use Rattle.pvm_step.specs.Machine.{state_of, after_of}
 use Rattle.pvm_step.proofs.Acting.{outcome_by}
 use Rattle.pvm_step.proofs.machine.Machine.set_of_a.Goals as goal
 
 pub returns-clause-acts : goal.returns-clause-acts
+unfolding arguments
 returns-clause-acts c =
     let p : Program = c.args.self.now.program in
     let s : MachineState = state_of c.args.self.now in
-    let made : after_of c.set_and_go_on.new.self None ≡ after p s (sets_of_a c.args.op (arguments F9 p.code s.pc c.args.skip) s) = search rules in
-    made
-    ∙ ap (λ (k : ℕ). after p s (sets_of_a c.args.op (arguments F9 p.code s.pc k) s)) c.requires.at.skip
+    let first = c.value.ensures ∙ ap (value_in s) c.requires.read.second in
+    let value = c.unary-value.ensures ∙ (λ i. alu.unary c.args.op (first i)) in
+    c.set_and_go_on.ensures.acts
+    ∙ (λ i. after p s (Sets (c.requires.read.first i) (value i)))
     ∙ sym (outcome_by c.args.op F9 (sets_of_a c.args.op) p s c.requires.line c.requires.form)

@@ -13,7 +13,7 @@ returns-clause-step c =
     let now = c.go_on_schedule-left.new.self in
     let left : ℕ = c.go_on_schedule-left.result.0 in
     on_ok (λ exit. with_gas now left exit ≡ reached 1 was.program (moment was None)) (λ exit. moment c.pay.new.self exit ≡ step was.program (moment was None)) c.go_on_schedule-left.result.1
-    (λ (exit : Option Exit) made. ap (λ (m : Machine). moment m exit) c.pay.ensures ∙ made ∙ one_step was.program (moment was None) refl) c.go_on_schedule-left.ensures.reached
+    (λ (exit : Option Exit) made. ap (λ (m : Machine). moment m exit) c.pay.ensures.paid ∙ made ∙ one_step was.program (moment was None) refl) c.go_on_schedule-left.ensures.reached
 
 pub returns-clause-err : goal.returns-clause-err
 returns-clause-err c =
@@ -21,7 +21,7 @@ returns-clause-err c =
     let now = c.go_on_schedule-left.new.self in
     let left : ℕ = c.go_on_schedule-left.result.0 in
     on_err ((n : ℕ) × (n < 1) × (with_gas now left None ≡ reached n was.program (moment was None))) (changes_memory (act_at now.program (state_of now)) ≡ true) (c.pay.new.self ≡ was)
-    c.go_on_schedule-left.result.1 (λ made _. c.pay.ensures ∙ none_made was now left made.0 made.1 c.go_on_schedule-left.ensures.rest made.2)
+    c.go_on_schedule-left.result.1 (λ made _. c.pay.ensures.paid ∙ none_made was now left made.0 made.1 c.go_on_schedule-left.ensures.rest made.2)
     c.go_on_schedule-left.ensures.err c.go_on_schedule-left.ensures.wants
 
 pub returns-clause-wants : goal.returns-clause-wants

@@ -1,0 +1,16 @@
+use Rattle.std.proofs.Common.{◌≡◌, [], length}
+use Rattle.jam_accounts.specs.Seen.{seen_entries}
+use Rattle.account_overlay.specs.Layers.{changed, seen_change}
+use Rattle.account_overlay.specs.Parts.{histories_of}
+use Rattle.account_overlay.proofs.Overs.{IsUntouched}
+use Rattle.account_overlay.proofs.histories.lookups_after.Given as goal
+
+-- what is left, taken into the map, gives the map now
+abbrev pub invariant-loop-key : goal.invariant-loop-key
+invariant-loop-key l = record {
+  taken : changed l.fn.base l.lookups (seen_entries (λ k. k) (seen_change (λ v. v)) l.places.entries) ≡ (histories_of l.fn.base l.fn.places.entries []).now;
+  untouched : IsUntouched (λ k. k) (seen_change (λ v. v)) l.fn.base l.places l.lookups;
+}
+
+abbrev pub decreases-loop-key : goal.decreases-loop-key
+decreases-loop-key l = length l.places.entries

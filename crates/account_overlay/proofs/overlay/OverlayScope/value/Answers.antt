@@ -1,0 +1,10 @@
+use Rattle.std.proofs.Common.{ap, sym, ◌∙◌}
+use Rattle.jam_accounts.specs.Accounts.{Account}
+use Rattle.std.specs.Option.{option_and_then}
+use Rattle.std.specs.FinMap as fin
+use Rattle.account_context.specs.Context.{Pair, stored_value}
+use Rattle.account_overlay.proofs.Overlaid.{account_own}
+use Rattle.account_overlay.proofs.overlay.OverlayScope.value.Goals as goal
+
+pub returns-then-id-self : goal.returns-then-id-self
+returns-then-id-self c = c.value.ensures ∙ sym (ap (option_and_then (λ (account : Account). fin.get account.storage c.args.key.now)) (account_own c.self.inside.service c.self.inside.others c.self.inside.own c.self.inside.issued c.args.id c.if-id-self.true)) ∙ ap (λ (p : Pair). stored_value p c.args.id c.args.key.now) c.self.view_is
